@@ -1,0 +1,14 @@
+-- `character::moves::at_power` meets its contract: fact by fact, the RAMs are anything and the others what the rule says.
+-- Assumes nothing.
+use mathlib.Core.Path.{refl}
+use Rattle.character.specs.Laws.{every}
+use Rattle.character.proofs.moves.at_power.Statement.{statement}
+use Rattle.character.proofs.moves.at_power.Tie as tie
+use Rattle.character.proofs.moves.at_power.Reads as reads
+use Rattle.character.proofs.moves.at_power.Lts as lts
+
+returns : tie.Need-returns
+returns c = every _ (λ i. refl) (λ i. refl) (λ i. refl) refl refl refl refl refl refl refl refl refl
+
+pub at-power-spec : {M : Type 1} → statement M
+at-power-spec = tie.close (tie.spec returns)

@@ -1,0 +1,14 @@
+-- `character::moves::lost` meets its contract: every fact stands as it was and is anything.
+-- Assumes nothing.
+use mathlib.Core.Path.{refl}
+use Rattle.character.specs.Laws.{every}
+use Rattle.character.proofs.moves.lost.Statement.{statement}
+use Rattle.character.proofs.moves.lost.Tie as tie
+use Rattle.character.proofs.moves.lost.Reads as reads
+use Rattle.character.proofs.moves.lost.Lts as lts
+
+returns : tie.Need-returns
+returns c = every _ (λ i. refl) (λ i. refl) (λ i. refl) refl refl refl refl refl refl refl refl refl
+
+pub lost-spec : {M : Type 1} → statement M
+lost-spec = tie.close (tie.spec returns)

@@ -1,0 +1,46 @@
+// The facts of a PT6302 as a value, and the answer of a move.
+use terms::Address;
+
+pub enum Lights {
+    Normal,
+    Off,
+    On,
+}
+
+pub enum Position {
+    Idle,
+    First,
+    Dcram,
+    Cgram,
+    Adram,
+    Ignoring,
+}
+
+// A chip: a value for every fact. Column k of character n stands at 5 n + k of cgram.
+pub struct Character {
+    pub dcram: [u8; 16],
+    pub cgram: [u8; 40],
+    pub adram: [u8; 16],
+    pub dcram_at: Address,
+    pub cgram_at: Address,
+    pub adram_at: Address,
+    pub column: u8,
+    pub port: u8,
+    pub duty: u8,
+    pub digits: u8,
+    pub lights: Lights,
+    pub position: Position,
+}
+
+// Which facts a move leaves as anything: all of a sort.
+pub struct Anything {
+    pub memory: bool,
+    pub settings: bool,
+    pub position: bool,
+}
+
+// The chip after a move, and which of its facts are anything: those stand there as they were.
+pub struct Moved {
+    pub chip: Character,
+    pub any: Anything,
+}

@@ -1,0 +1,6 @@
+pub mod Choice
+pub mod Rule
+pub mod Change
+pub mod Range
+pub mod Touch
+pub mod Laws

@@ -1,0 +1,34 @@
+-- Ranges: a value of a fact is a number below its range. A rule whose forms are in range keeps a chip in range.
+use Prim.Native.Nat.{ℕ, _<_, _≤_}
+use native.Mathlib.Omega.{arith}
+use Rattle.rules.specs.Rule.{Form, value, copy, free, Rule, gives, look, Outcome, becomes, anything, run}
+
+-- Every fact of the chip has a value in its range.
+abbrev pub Good : {F : Type 0} → (F → ℕ) → (F → ℕ) → Type 0
+Good {F} range c = (f : F) → c f < range f
+
+-- A form that gives values below n, where facts have the ranges `range`.
+abbrev pub Fits : {F : Type 0} → (F → ℕ) → ℕ → Form F → Type 0
+Fits range n (value v) = v < n
+Fits range n (copy g) = range g ≤ n
+Fits range n free = Unit
+
+-- A rule whose forms are in range, whatever values in range it looks at.
+abbrev pub Ranged : {F R : Type 0} → (F → ℕ) → (R → ℕ) → Rule F R → Type 0
+Ranged {R = R} range answers (gives φ) = (r : R) → Fits range (answers r) (φ r)
+Ranged range answers (look g k) = (w : ℕ) → w < range g → Ranged range answers (k w)
+
+abbrev pub Below : ℕ → Outcome → Type 0
+Below n (becomes v) = v < n
+Below n anything = Unit
+
+form-below : {F : Type 0} (range c : F → ℕ) (n : ℕ) (x : Form F) → Good range c → Fits range n x → Below n (Rattle.rules.specs.Rule.outcome c x)
+form-below range c n (value v) g h = h
+form-below range c n (copy f) g h = let a = g f in omega arith
+form-below range c n free g h = tt
+
+-- A move keeps every fact in its range.
+pub keeps-range : {F R : Type 0} (range : F → ℕ) (answers : R → ℕ) (rule : Rule F R) (c : F → ℕ) → Good range c → Ranged range answers rule
+    → (r : R) → Below (answers r) (run rule c r)
+keeps-range range answers (gives φ) c g h r = form-below range c (answers r) (φ r) g (h r)
+keeps-range range answers (look f k) c g h r = keeps-range range answers (k (c f)) c g (h (c f) (g f)) r

@@ -1,0 +1,8 @@
+pub mod Family
+pub mod Fact
+pub mod Value
+pub mod View
+pub mod Command
+pub mod Move
+pub mod Sent
+pub mod Laws

@@ -1,0 +1,24 @@
+-- `terms::part_of` meets its contract: each arm knows that the byte is its own number, or that it is none of the three.
+-- Assumes nothing.
+use borrow.Author.Tests.{ne-eqb}
+use Rattle.terms.proofs.part_of.Statement.{statement}
+use Rattle.terms.proofs.part_of.Tie as tie
+use Rattle.terms.proofs.part_of.Reads as reads
+use Rattle.terms.proofs.part_of.Lts as lts
+
+returns : tie.Need-returns
+returns c = rw (c .match .keys1)
+
+returns-2 : tie.Need-returns-2
+returns-2 c = rw (c .match .keys2)
+
+returns-3 : tie.Need-returns-3
+returns-3 c = rw (c .match .keys3)
+
+returns-4 : tie.Need-returns-4
+returns-4 c =
+    simp
+    (ne-eqb _ _ (c .match .rest .0 .0 .1), ne-eqb _ _ (c .match .rest .0 .1), ne-eqb _ _ (c .match .rest .1))
+
+pub part-of-spec : {M : Type 1} → statement M
+part-of-spec = tie.close (tie.spec returns returns-2 returns-3 returns-4)
