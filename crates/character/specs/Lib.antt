@@ -4,3 +4,6 @@ pub mod View
 pub mod Command
 pub mod Move
 pub mod Laws
+pub mod Range
+pub mod Touch
+pub mod Unique

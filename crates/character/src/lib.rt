@@ -1,9 +1,6 @@
-// PT6302 as a machine. The rules in specs/ say what an event does to such a chip; here is code that does it.
-mod bytes;
+// PT6302: its facts as a value and the reading of a first byte as a command; the rules in specs/ say what an event does to such a chip.
 mod chip;
 mod command;
-mod commanded;
-mod moves;
 
 pub use chip::Anything;
 pub use chip::Character;
@@ -12,4 +9,3 @@ pub use chip::Moved;
 pub use chip::Position;
 pub use command::Command;
 pub use command::command_of;
-pub use moves::moved;

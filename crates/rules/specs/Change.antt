@@ -1,5 +1,4 @@
 -- Forms for all facts at once: nothing changes, or nothing but one fact.
-use mathlib.Core.Path.{_≡_}
 use Rattle.rules.specs.Rule.{Form, copy}
 
 -- Every fact keeps its value.

@@ -4,3 +4,4 @@ pub mod Change
 pub mod Range
 pub mod Touch
 pub mod Laws
+pub mod Unique

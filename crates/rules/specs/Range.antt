@@ -1,7 +1,9 @@
 -- Ranges: a value of a fact is a number below its range. A rule whose forms are in range keeps a chip in range.
 use Prim.Native.Nat.{ℕ, _<_, _≤_}
 use native.Mathlib.Omega.{arith}
-use Rattle.rules.specs.Rule.{Form, value, copy, free, Rule, gives, look, Outcome, becomes, anything, run}
+use mathlib.Core.Path.{_≡_, subst⁻¹}
+use Rattle.rules.specs.Rule.{Form, value, copy, free, Rule, gives, look, Outcome, becomes, anything, outcome, run}
+use Rattle.rules.specs.Change.{keep, change}
 
 -- Every fact of the chip has a value in its range.
 abbrev pub Good : {F : Type 0} → (F → ℕ) → (F → ℕ) → Type 0
@@ -22,7 +24,7 @@ abbrev pub Below : ℕ → Outcome → Type 0
 Below n (becomes v) = v < n
 Below n anything = Unit
 
-form-below : {F : Type 0} (range c : F → ℕ) (n : ℕ) (x : Form F) → Good range c → Fits range n x → Below n (Rattle.rules.specs.Rule.outcome c x)
+form-below : {F : Type 0} (range c : F → ℕ) (n : ℕ) (x : Form F) → Good range c → Fits range n x → Below n (outcome c x)
 form-below range c n (value v) g h = h
 form-below range c n (copy f) g h = let a = g f in omega arith
 form-below range c n free g h = tt
@@ -32,3 +34,18 @@ pub keeps-range : {F R : Type 0} (range : F → ℕ) (answers : R → ℕ) (rule
     → (r : R) → Below (answers r) (run rule c r)
 keeps-range range answers (gives φ) c g h r = form-below range c (answers r) (φ r) g (h r)
 keeps-range range answers (look f k) c g h r = keeps-range range answers (k (c f)) c g (h (c f) (g f)) r
+
+-- Forms in range are made of forms in range.
+module _ {F : Type 0} (same? : Discrete F) (range : F → ℕ) where
+  abbrev pub InRange : (F → Form F) → Type 0
+  InRange φ = (f : F) → Fits range (range f) (φ f)
+
+  pub keep-fits : InRange keep
+  keep-fits f = omega arith
+
+  pub change-fits : (g : F) (x : Form F) (φ : F → Form F) → Fits range (range g) x → InRange φ → InRange (change same? g x φ)
+  change-fits g x φ h k f = go (same? f g)
+    where
+      go : (d : Dec (f ≡ g)) → Fits range (range f) (elim d [ yes _ ↦ x | no _ ↦ φ f ])
+      go (yes e) = subst⁻¹ (λ (y : F). Fits range (range y) x) e h
+      go (no n) = k f

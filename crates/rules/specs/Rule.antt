@@ -1,6 +1,6 @@
 -- A move as data. A chip is read as a function from its facts to numbers; a rule says what becomes of each fact.
 -- F is the type of facts that a rule looks at, R that of what it answers for: the facts again for a move, one thing for a report.
-use Prim.Native.Nat.{ℕ, _<_, _≤_}
+use Prim.Native.Nat.{ℕ}
 use mathlib.Core.Bool.{Bool, true, false}
 use mathlib.Core.Path.{_≡_}
 

@@ -2,7 +2,9 @@
 use Prim.Native.Nat.{ℕ}
 use mathlib.Core.Path.{_≡_, refl, ap}
 use mathlib.Core.Bool.{Bool, true, false}
+use mathlib.Core.Logic.{_≢_}
 use Rattle.rules.specs.Rule.{Form, value, copy, free, Rule, gives, look, Outcome, becomes, anything, outcome, run}
+use Rattle.rules.specs.Change.{keep, change}
 
 -- The rule leaves the fact f alone.
 abbrev pub Leaves : {F : Type 0} → F → Rule F F → Type 0
@@ -37,3 +39,25 @@ form-settles c free h = h
 pub settles : {F R : Type 0} (r : R) (rule : Rule F R) (c : F → ℕ) → Settles r rule → isAnything (run rule c r) ≡ false
 settles r (gives φ) c h = form-settles c (φ r) h
 settles r (look g k) c h = settles r (k (c g)) c (h (c g))
+
+-- Forms that leave a fact alone, and forms that settle every fact, are made of such.
+module _ {F : Type 0} (same? : Discrete F) where
+  pub change-leaves : (g : F) (x : Form F) (φ : F → Form F) (f : F) → f ≢ g → φ f ≡ copy f → change same? g x φ f ≡ copy f
+  change-leaves g x φ f n e = go (same? f g)
+    where
+      go : (d : Dec (f ≡ g)) → _≡_ {A = Form F} (elim d [ yes _ ↦ x | no _ ↦ φ f ]) (copy f)
+      go (yes p) = absurd (n p)
+      go (no _) = e
+
+  abbrev pub AllSettle : (F → Form F) → Type 0
+  AllSettle φ = (f : F) → isFree (φ f) ≡ false
+
+  pub keep-settles : AllSettle keep
+  keep-settles f = refl
+
+  pub change-settles : (g : F) (x : Form F) (φ : F → Form F) → isFree x ≡ false → AllSettle φ → AllSettle (change same? g x φ)
+  change-settles g x φ h k f = go (same? f g)
+    where
+      go : (d : Dec (f ≡ g)) → isFree {F = F} (elim d [ yes _ ↦ x | no _ ↦ φ f ]) ≡ false
+      go (yes _) = h
+      go (no _) = k f

@@ -1,7 +1,6 @@
 -- A first byte as a command, by its top two bits (paper 01, "Moves of PT6312 and PT6315"; 001, 002).
 -- Bits that a command does not name are ignored.
 use Prim.Native.Nat.{ℕ, _/_, _%_, min}
-use mathlib.Core.Bool.{Bool, true, false}
 use lib.Dec.{ltb}
 use Rattle.rules.specs.Choice.{whether, bit, of4}
 use Rattle.segment.specs.declared.command.Command.{Command}

@@ -1,7 +1,5 @@
 -- The facts of a PT6312 or PT6315, in paper 01's order, and how many values each has (paper 01, "Facts and chips").
 use Prim.Native.Nat.{ℕ, suc}
-use mathlib.Core.Path.{_≡_}
-use mathlib.Core.Bool.{Bool}
 use native.Mathlib.Decide.{ℕ-discrete}
 use Rattle.rules.specs.Choice.{whether}
 use Rattle.segment.specs.declared.chip.Sizes.{Sizes}

@@ -6,3 +6,6 @@ pub mod Command
 pub mod Move
 pub mod Sent
 pub mod Laws
+pub mod Range
+pub mod Touch
+pub mod Unique

@@ -1,6 +1,5 @@
 -- The moves of PT6312 and PT6315, one rule for each sentence of paper 01.
 use Prim.Native.Nat.{ℕ, zero, suc, _+_, _%_, min}
-use mathlib.Core.Bool.{Bool, true, false}
 use lib.Dec.{ltb, eqb}
 use Rattle.rules.specs.Choice.{whether, of2, of4}
 use Rattle.rules.specs.Rule.{Form, value, copy, free, Rule, gives, look}

@@ -115,3 +115,9 @@ pub struct Moved {
     pub chip: Segment,
     pub any: Anything,
 }
+
+// What the chip sends next, if it drives the line.
+pub enum Sent {
+    Byte(u8),
+    NotDriven,
+}

@@ -1,12 +1,7 @@
-// PT6312 and PT6315 as machines: one family, whose parts differ in a few numbers. The rules in specs/ say what an event does
-// to such a chip; here is code that does it.
-mod bytes;
+// PT6312 and PT6315: one family, whose parts differ in a few numbers. Here are their facts as a value and the reading of a first byte
+// as a command; the rules in specs/ say what an event does to such a chip.
 mod chip;
 mod command;
-mod commanded;
-mod latches;
-mod moves;
-mod sent;
 
 pub use chip::Anything;
 pub use chip::Data;
@@ -16,10 +11,8 @@ pub use chip::Moved;
 pub use chip::Pointer;
 pub use chip::Position;
 pub use chip::Segment;
+pub use chip::Sent;
 pub use chip::Sizes;
 pub use chip::Stepping;
 pub use command::Command;
 pub use command::command_of;
-pub use moves::moved;
-pub use sent::Sent;
-pub use sent::sent_next;

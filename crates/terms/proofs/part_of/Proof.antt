@@ -3,8 +3,6 @@
 use borrow.Author.Tests.{ne-eqb}
 use Rattle.terms.proofs.part_of.Statement.{statement}
 use Rattle.terms.proofs.part_of.Tie as tie
-use Rattle.terms.proofs.part_of.Reads as reads
-use Rattle.terms.proofs.part_of.Lts as lts
 
 returns : tie.Need-returns
 returns c = rw (c .match .keys1)

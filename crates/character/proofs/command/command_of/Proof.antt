@@ -1,16 +1,9 @@
 -- `character::command::command_of` meets its contract: each arm knows the high nibble, or that it is none of 1 to 7.
 -- Assumes nothing.
-use borrow.Author.Tests.{eq-eqb, ne-eqb}
-use native.Mathlib.Omega.{arith}
-use Prim.Native.Nat.{ℕ, _/_, _%_}
-use mathlib.Core.Path.{_≡_, refl}
+use borrow.Author.Tests.{ne-eqb}
 use borrow.Author.Needs.{needs}
 use Rattle.character.proofs.command.command_of.Statement.{statement}
 use Rattle.character.proofs.command.command_of.Tie as tie
-use Rattle.character.proofs.command.command_of.Reads as reads
-use Rattle.character.proofs.command.command_of.Lts as lts
-use Rattle.character.proofs.command.lights_of.Reads as lights-of-reads
-use Rattle.character.proofs.command.spare_of.Reads as spare-of-reads
 
 lights-of-requires : tie.Need-lights-of-requires
 lights-of-requires c κs = search needs

@@ -6,8 +6,6 @@ use Prim.Native.Nat.{_/_, _%_}
 use mathlib.Core.Path.{_≡_}
 use Rattle.character.proofs.command.lights_of.Statement.{statement}
 use Rattle.character.proofs.command.lights_of.Tie as tie
-use Rattle.character.proofs.command.lights_of.Reads as reads
-use Rattle.character.proofs.command.lights_of.Lts as lts
 
 returns : tie.Need-returns
 returns c = simp (eq-eqb _ _ (c .if1 .taken))

@@ -1,10 +1,8 @@
 -- `character::command::spare_of` meets its contract: each arm knows that the byte is its own number, or that it is neither.
 -- Assumes nothing.
-use borrow.Author.Tests.{eq-eqb, ne-eqb}
+use borrow.Author.Tests.{ne-eqb}
 use Rattle.character.proofs.command.spare_of.Statement.{statement}
 use Rattle.character.proofs.command.spare_of.Tie as tie
-use Rattle.character.proofs.command.spare_of.Reads as reads
-use Rattle.character.proofs.command.spare_of.Lts as lts
 
 returns : tie.Need-returns
 returns c = rw (c .match .keys1)

@@ -6,12 +6,6 @@ use mathlib.Core.Path.{_≡_}
 use borrow.Author.Needs.{needs}
 use Rattle.segment.proofs.command.command_of.Statement.{statement}
 use Rattle.segment.proofs.command.command_of.Tie as tie
-use Rattle.segment.proofs.command.command_of.Reads as reads
-use Rattle.segment.proofs.command.command_of.Lts as lts
-use Rattle.segment.proofs.command.display_of.Reads as display-of-reads
-use Rattle.segment.proofs.command.mode_of.Reads as mode-of-reads
-use Rattle.segment.proofs.command.pointer_of.Reads as pointer-of-reads
-use Rattle.segment.proofs.command.setting_of.Reads as setting-of-reads
 
 mode-of-requires : tie.Need-mode-of-requires
 mode-of-requires c κs = search needs

@@ -5,8 +5,6 @@ use native.Mathlib.Omega.{arith}
 use borrow.Author.Needs.{needs}
 use Rattle.segment.proofs.command.mode_of.Statement.{statement}
 use Rattle.segment.proofs.command.mode_of.Tie as tie
-use Rattle.segment.proofs.command.mode_of.Reads as reads
-use Rattle.segment.proofs.command.mode_of.Lts as lts
 
 enum-told : tie.Need-enum-told
 enum-told c = search needs

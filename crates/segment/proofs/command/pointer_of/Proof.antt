@@ -1,12 +1,10 @@
 -- `segment::command::pointer_of` meets its contract: each arm knows its part and whether the address is below the number of its cells.
 -- Assumes nothing.
 use Rattle.segment.specs.Family.{sizes}
-use borrow.Author.Tests.{eq-eqb, ne-eqb, lt-ltb, le-ltb}
+use borrow.Author.Tests.{lt-ltb, le-ltb}
 use borrow.Author.Needs.{needs}
 use Rattle.segment.proofs.command.pointer_of.Statement.{statement}
 use Rattle.segment.proofs.command.pointer_of.Tie as tie
-use Rattle.segment.proofs.command.pointer_of.Reads as reads
-use Rattle.segment.proofs.command.pointer_of.Lts as lts
 
 enum-told : tie.Need-enum-told
 enum-told c = search needs

@@ -4,13 +4,10 @@ use native.Mathlib.Omega.{arith}
 use Prim.Native.Nat.{_%_}
 use mathlib.Core.Path.{_≡_}
 use Rattle.segment.specs.Family.{sizes}
-use borrow.Author.Tests.{eq-eqb, ne-eqb, lt-ltb, le-ltb}
+use borrow.Author.Tests.{eq-eqb, ne-eqb}
 use borrow.Author.Needs.{needs}
 use Rattle.segment.proofs.command.setting_of.Statement.{statement}
 use Rattle.segment.proofs.command.setting_of.Tie as tie
-use Rattle.segment.proofs.command.setting_of.Reads as reads
-use Rattle.segment.proofs.command.setting_of.Lts as lts
-use Rattle.segment.proofs.command.stepping_of.Reads as stepping-of-reads
 
 stepping-of-requires : tie.Need-stepping-of-requires
 stepping-of-requires c κs = search needs

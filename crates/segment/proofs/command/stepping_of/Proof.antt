@@ -3,8 +3,6 @@
 use borrow.Author.Tests.{eq-eqb, ne-eqb}
 use Rattle.segment.proofs.command.stepping_of.Statement.{statement}
 use Rattle.segment.proofs.command.stepping_of.Tie as tie
-use Rattle.segment.proofs.command.stepping_of.Reads as reads
-use Rattle.segment.proofs.command.stepping_of.Lts as lts
 
 returns : tie.Need-returns
 returns c = simp (eq-eqb _ _ (c .if1 .taken))

@@ -4,8 +4,6 @@ use Rattle.segment.specs.Family.{sizes}
 use borrow.Author.Needs.{needs}
 use Rattle.segment.proofs.chip.Family.sizes.Statement.{statement}
 use Rattle.segment.proofs.chip.Family.sizes.Tie as tie
-use Rattle.segment.proofs.chip.Family.sizes.Reads as reads
-use Rattle.segment.proofs.chip.Family.sizes.Lts as lts
 
 enum-told : tie.Need-enum-told
 enum-told c = search needs

@@ -1,0 +1,95 @@
+// PT6302.
+use crate::print;
+use character::Anything;
+use character::Character;
+use character::Lights;
+use character::Moved;
+use character::Position;
+use terms::Address;
+
+// A chip in the middle of something, with a value that shows in every fact: all RAMs hold 6E, but ADRAM 2.
+pub fn used() -> Moved {
+    let chip = Character {
+        dcram: [0x6E; 16],
+        cgram: [0x6E; 40],
+        adram: [2; 16],
+        dcram_at: Address(5),
+        cgram_at: Address(6),
+        adram_at: Address(7),
+        column: 3,
+        port: 2,
+        duty: 5,
+        digits: 4,
+        lights: Lights::On,
+        position: Position::Cgram,
+    };
+    Moved {
+        chip,
+        any: Anything {
+            memory: false,
+            settings: false,
+            position: false,
+        },
+    }
+}
+
+pub fn show(moved: Moved) {
+    let chip = moved.chip;
+    print::number(b"    DCRAM at ", chip.dcram_at.0);
+    print::number(b", CGRAM at ", chip.cgram_at.0);
+    print::number(b" column ", chip.column);
+    print::number(b", ADRAM at ", chip.adram_at.0);
+    print::number(b", port ", chip.port);
+    print::number(b", duty ", chip.duty);
+    print::number(b", digits ", chip.digits);
+    let lit = chip.lights;
+    lights(lit);
+    let at = chip.position;
+    position(at);
+    let dcram = chip.dcram;
+    print::text(b"\n    D");
+    sixteen(dcram, 0x6E);
+    let cgram = chip.cgram;
+    print::text(b"; G");
+    forty(cgram, 0x6E);
+    let adram = chip.adram;
+    print::text(b"; A");
+    sixteen(adram, 2);
+    let any = moved.any;
+    anything(any);
+}
+
+fn sixteen(cells: [u8; 16], before: u8) {
+    print::changed(&cells, before);
+}
+
+fn forty(cells: [u8; 40], before: u8) {
+    print::changed(&cells, before);
+}
+
+fn lights(lights: Lights) {
+    match lights {
+        Lights::Normal => print::text(b", normal"),
+        Lights::Off => print::text(b", off"),
+        Lights::On => print::text(b", on"),
+    }
+}
+
+fn position(position: Position) {
+    match position {
+        Position::Idle => print::text(b", idle"),
+        Position::First => print::text(b", first byte"),
+        Position::Dcram => print::text(b", to DCRAM"),
+        Position::Cgram => print::text(b", to CGRAM"),
+        Position::Adram => print::text(b", to ADRAM"),
+        Position::Ignoring => print::text(b", ignoring"),
+    }
+}
+
+fn anything(any: Anything) {
+    print::text(b"; anything:");
+    print::flag(b" memory", any.memory);
+    print::flag(b" settings", any.settings);
+    print::flag(b" position", any.position);
+    print::text(b"\n");
+}

@@ -1,0 +1,121 @@
+// PT6312 and PT6315.
+use crate::print;
+use segment::Anything;
+use segment::Data;
+use segment::Display;
+use segment::Family;
+use segment::Moved;
+use segment::Pointer;
+use segment::Position;
+use segment::Segment;
+use segment::Sent;
+use segment::Stepping;
+use terms::Address;
+
+// A chip in the middle of something, with a value that shows in every fact: all cells hold EE.
+pub fn used() -> Moved {
+    let chip = Segment {
+        cells: [0xEE; 36],
+        address: Pointer::At(Address(5)),
+        data: Data::ReadKeys,
+        stepping: Stepping::Fixed,
+        mode: 3,
+        dimming: 5,
+        display: Display::On,
+        led: 9,
+        keys: [0xA1, 0xA2, 0xA3, 0xA4],
+        switches: 6,
+        count: 2,
+        position: Position::Open,
+    };
+    Moved {
+        chip,
+        any: Anything {
+            memory: false,
+            data: false,
+            settings: false,
+            inputs: false,
+            position: false,
+        },
+    }
+}
+
+pub fn show(family: Family, moved: Moved) {
+    let chip = moved.chip;
+    let to = chip.address;
+    address(to);
+    let mode = chip.data;
+    data(mode);
+    let step = chip.stepping;
+    stepping(step);
+    print::number(b", mode ", chip.mode);
+    print::number(b", dimming ", chip.dimming);
+    let shown = chip.display;
+    display(shown);
+    print::number(b", LED ", chip.led);
+    print::number(b", count ", chip.count);
+    let at = chip.position;
+    position(at);
+    print::text(b"\n    cells");
+    let cells = chip.cells;
+    print::changed(&cells, 0xEE);
+    let any = moved.any;
+    anything(any);
+    next(family, chip);
+}
+
+fn address(address: Pointer) {
+    match address {
+        Pointer::At(cell) => print::number(b"    address ", cell.0),
+        Pointer::Invalid => print::text(b"    address invalid"),
+    }
+}
+
+fn data(data: Data) {
+    match data {
+        Data::WriteDisplay => print::text(b", write display"),
+        Data::WriteLed => print::text(b", write LED"),
+        Data::ReadKeys => print::text(b", read keys"),
+        Data::ReadSwitches => print::text(b", read switches"),
+    }
+}
+
+fn stepping(stepping: Stepping) {
+    match stepping {
+        Stepping::Increment => print::text(b", increment"),
+        Stepping::Fixed => print::text(b", fixed"),
+    }
+}
+
+fn display(display: Display) {
+    match display {
+        Display::Off => print::text(b", off"),
+        Display::On => print::text(b", on"),
+    }
+}
+
+fn position(position: Position) {
+    match position {
+        Position::Idle => print::text(b", idle"),
+        Position::First => print::text(b", first byte"),
+        Position::Open => print::text(b", open"),
+        Position::Ignoring => print::text(b", ignoring"),
+    }
+}
+
+fn anything(any: Anything) {
+    print::text(b"; anything:");
+    print::flag(b" memory", any.memory);
+    print::flag(b" data mode", any.data);
+    print::flag(b" settings", any.settings);
+    print::flag(b" keys and switches", any.inputs);
+    print::flag(b" position", any.position);
+}
+
+fn next(family: Family, chip: Segment) {
+    match segment_machine::sent_next(family, chip) {
+        Sent::Byte(byte) => print::number(b"; sends ", byte),
+        Sent::NotDriven => print::text(b"; not driven"),
+    }
+    print::text(b"\n");
+}

@@ -1,0 +1,16 @@
+-- `segment_machine::moves::at_power` meets its contract: the part's own numbers come from its sizes, the others stand in the rule.
+-- Assumes nothing.
+use mathlib.Core.Path.{refl}
+use Rattle.segment.specs.Laws.{every}
+use borrow.Author.Needs.{needs}
+use Rattle.segment_machine.proofs.moves.at_power.Statement.{statement}
+use Rattle.segment_machine.proofs.moves.at_power.Tie as tie
+
+sizes-requires : tie.Need-sizes-requires
+sizes-requires c κs = search needs
+
+returns : tie.Need-returns
+returns c = rw (c .before .before .sizes .ensures) (every _ (λ i. refl) refl refl refl refl refl refl refl (λ i. refl) refl refl refl)
+
+pub at-power-spec : {M : Type 1} → statement M
+at-power-spec = tie.close (tie.spec sizes-requires returns)

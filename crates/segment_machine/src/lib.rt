@@ -1,0 +1,9 @@
+// PT6312 and PT6315 as machines: code that does to a chip what the rules of `segment` say.
+mod bytes;
+mod commanded;
+mod latches;
+mod moves;
+mod sent;
+
+pub use moves::moved;
+pub use sent::sent_next;

@@ -1,0 +1,103 @@
+// What each event does to a chip.
+use crate::bytes::byte_in;
+use crate::bytes::byte_out;
+use crate::latches::keys_latched;
+use crate::latches::switches_latched;
+use segment::Anything;
+use segment::Data;
+use segment::Display;
+use segment::Family;
+use segment::Moved;
+use segment::Pointer;
+use segment::Position;
+use segment::Segment;
+use segment::Stepping;
+use terms::Address;
+use terms::Event;
+ghost use Rattle.rules.specs.Rule.{gives, free};
+ghost use Rattle.segment.specs.Family.{sizes};
+ghost use Rattle.segment.specs.View.{By};
+ghost use Rattle.segment.specs.Move.{nothing, then, powered, move};
+
+// No fact is anything.
+pub const NONE: Anything = Anything {
+    memory: false,
+    data: false,
+    settings: false,
+    inputs: false,
+    position: false,
+};
+
+// The chip after an event.
+pub fn moved(family: Family, chip: Segment, event: Event) -> Moved
+    ensures { λ r. ⌜ By (move (sizes family) event) chip r ⌝ }
+{
+    match event {
+        Event::Power => at_power(family, chip),
+        Event::Falls => at(chip, Position::First),
+        Event::ByteIn(byte) => byte_in(family, chip, byte),
+        Event::Rises => at(chip, Position::Idle),
+        Event::Gap => lost(chip),
+        Event::Unfinished(_) => at(chip, Position::Idle),
+        Event::Keys(k0, k1, k2, k3) => keys_latched(family, chip, k0, k1, k2, k3),
+        Event::Switches(value) => switches_latched(family, chip, value),
+        Event::ByteOut => byte_out(chip),
+    }
+}
+
+pub fn unchanged(chip: Segment) -> Moved
+    ensures { λ r. ⌜ By nothing chip r ⌝ }
+{
+    Moved { chip, any: NONE }
+}
+
+// Only the position changes.
+pub fn at(chip: Segment, position: Position) -> Moved
+    ensures { λ r. ⌜ By (gives (then position)) chip r ⌝ }
+{
+    Moved {
+        chip: Segment { position, ..chip },
+        any: NONE,
+    }
+}
+
+fn at_power(family: Family, chip: Segment) -> Moved
+    ensures { λ r. ⌜ By (gives (powered (sizes family))) chip r ⌝ }
+{
+    let sizes = family.sizes();
+    let chip = Segment {
+        address: Pointer::At(Address(0)),
+        data: Data::WriteDisplay,
+        stepping: Stepping::Increment,
+        mode: sizes.top,
+        dimming: 0,
+        display: Display::Off,
+        led: sizes.led,
+        count: 0,
+        position: Position::Idle,
+        ..chip
+    };
+    Moved {
+        chip,
+        any: Anything {
+            memory: true,
+            inputs: true,
+            ..NONE
+        },
+    }
+}
+
+fn lost(chip: Segment) -> Moved
+    ensures { λ r. ⌜ By (gives (λ f. free)) chip r ⌝ }
+{
+    Moved {
+        chip,
+        any: Anything {
+            memory: true,
+            data: true,
+            settings: true,
+            inputs: true,
+            position: true,
+        },
+    }
+}
