@@ -5,3 +5,5 @@ pub mod Range
 pub mod Touch
 pub mod Laws
 pub mod Unique
+pub mod Turn
+pub mod Walk

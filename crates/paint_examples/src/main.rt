@@ -1,0 +1,182 @@
+// Examples of painting: each prints its answer and the whole output, which held EE before, and is compared with the file stdout, whose
+// values are from paper 01.
+use character::Lights;
+use libc::STDOUT_FILENO;
+use painter::Painting;
+use painting::CharacterPicture;
+use painting::Picture;
+use painting::SegmentPicture;
+use segment::Display;
+
+fn main() {
+    p14();
+    pt6315();
+    pt6302();
+    refused();
+}
+
+// All 00, mode 7, LED 15, dimming 0, off.
+fn blank() -> SegmentPicture {
+    SegmentPicture {
+        cells: [0; 36],
+        mode: 7,
+        dimming: 0,
+        display: Display::Off,
+        led: 15,
+    }
+}
+
+// All spaces, an empty character set, no marks, lights normal.
+fn spaces() -> CharacterPicture {
+    CharacterPicture {
+        dcram: [0x20; 16],
+        cgram: [0; 40],
+        adram: [0; 16],
+        port: 0,
+        duty: 0,
+        digits: 0,
+        lights: Lights::Normal,
+    }
+}
+
+fn p14() {
+    let picture = Picture {
+        segment: blank(),
+        character: spaces(),
+    };
+    show(b"P14, PT6312 all 00\n", 0x12, picture, 68);
+}
+
+// Every setting at its highest, and the first and the last cell marked.
+fn pt6315() {
+    let mut cells = [0x10u8; 36];
+    cells[0] = 0xA5;
+    cells[35] = 0x5A;
+    let segment = SegmentPicture {
+        cells,
+        mode: 8,
+        dimming: 7,
+        display: Display::On,
+        led: 10,
+    };
+    let picture = Picture {
+        segment,
+        character: spaces(),
+    };
+    show(b"PT6315\n", 0x15, picture, 95);
+}
+
+// A reading, a character of five columns, and two marks.
+fn pt6302() {
+    let mut dcram = [0x20u8; 16];
+    dcram[0] = 0x2D;
+    dcram[15] = 0x35;
+    let mut cgram = [0u8; 40];
+    cgram[0] = 0x7F;
+    cgram[39] = 0x41;
+    let mut adram = [0u8; 16];
+    adram[0] = 3;
+    adram[15] = 1;
+    let character = CharacterPicture {
+        dcram,
+        cgram,
+        adram,
+        port: 2,
+        duty: 7,
+        digits: 1,
+        lights: Lights::On,
+    };
+    let picture = Picture {
+        segment: blank(),
+        character,
+    };
+    show(b"PT6302\n", 0x02, picture, 174);
+}
+
+fn refused() {
+    let good = Picture {
+        segment: blank(),
+        character: spaces(),
+    };
+    show(b"part 14\n", 0x14, good, 3);
+    show(b"room 65 on PT6312\n", 0x12, good, 65);
+    show(b"room 171 on PT6302\n", 0x02, good, 171);
+    let mode = Picture {
+        segment: SegmentPicture { mode: 8, ..blank() },
+        character: spaces(),
+    };
+    show(b"mode 8 on PT6312\n", 0x12, mode, 3);
+    show(b"LED 16\n", 0x15, with_led(16), 3);
+    show(b"dimming 8\n", 0x15, with_dimming(8), 3);
+    show(b"a pair of 4\n", 0x02, with_pair(4), 3);
+    show(b"a column of 80\n", 0x02, with_column(0x80), 3);
+}
+
+fn with_led(led: u8) -> Picture {
+    Picture {
+        segment: SegmentPicture { led, ..blank() },
+        character: spaces(),
+    }
+}
+
+fn with_dimming(dimming: u8) -> Picture {
+    Picture {
+        segment: SegmentPicture { dimming, ..blank() },
+        character: spaces(),
+    }
+}
+
+fn with_pair(pair: u8) -> Picture {
+    let mut adram = [0u8; 16];
+    adram[15] = pair;
+    Picture {
+        segment: blank(),
+        character: CharacterPicture { adram, ..spaces() },
+    }
+}
+
+fn with_column(column: u8) -> Picture {
+    let mut cgram = [0u8; 40];
+    cgram[39] = column;
+    Picture {
+        segment: blank(),
+        character: CharacterPicture { cgram, ..spaces() },
+    }
+}
+
+fn show(name: &[u8], part: u8, picture: Picture, room: u8) {
+    io::write_all(STDOUT_FILENO, name);
+    let mut buffer = [0xEEu8; 256];
+    let n = room as usize;
+    painted(part, picture, &mut buffer[..n]);
+}
+
+fn painted(part: u8, picture: Picture, out: &mut [u8]) {
+    match painter::paint(part, picture, out) {
+        Painting::Done(place) => number(b"  0 at ", place.0),
+        Painting::NoPart(place) => number(b"  1 at ", place.0),
+        Painting::OutOfRange(place) => number(b"  9 at ", place.0),
+        Painting::TooSmall(place) => number(b"  10 at ", place.0),
+    }
+    bytes(&out[..]);
+    io::write_all(STDOUT_FILENO, b"\n");
+}
+
+fn number(name: &[u8], n: usize) {
+    io::write_all(STDOUT_FILENO, name);
+    io::print_decimal(STDOUT_FILENO, n as u64);
+    io::write_all(STDOUT_FILENO, b":");
+}
+
+fn bytes(out: &[u8]) {
+    let mut i = 0;
+    while i < out.len() {
+        byte(out[i]);
+        i += 1;
+    }
+}
+
+fn byte(b: u8) {
+    io::write_all(STDOUT_FILENO, b" ");
+    io::print_hex(STDOUT_FILENO, b as u64, 2);
+}

@@ -1,0 +1,90 @@
+-- `painter::paint` meets its contract: each arm knows the part that the byte names, and its callee paints for that part.
+-- Assumes nothing.
+use mathlib.Core.Path.{_≡_, _∙_, sym, ap, refl}
+use Rattle.terms.specs.declared.Part.the-variants.{Pt6302, Pt6312, Pt6315}
+use Rattle.terms.specs.declared.PartRead.the-variants.{Is}
+use Rattle.terms.specs.Part.{partOf}
+use borrow.Author.Needs.{needs}
+use Rattle.painter.proofs.paint.Statement.{statement}
+use Rattle.painter.proofs.paint.Tie as tie
+
+part-of-requires : tie.Need-part-of-requires
+part-of-requires c κs = search needs
+
+enum-known-known : tie.Need-enum-known-known
+enum-known-known c = search needs
+
+enum-told : tie.Need-enum-told
+enum-told c = search needs
+
+paint-requires : tie.Need-paint-requires
+paint-requires c κs = search needs
+
+enum-told-2 : tie.Need-enum-told-2
+enum-told-2 c = search needs
+
+paint-requires-2 : tie.Need-paint-requires-2
+paint-requires-2 c κs = search needs
+
+enum-told-3 : tie.Need-enum-told-3
+enum-told-3 c = search needs
+
+paint-requires-3 : tie.Need-paint-requires-3
+paint-requires-3 c κs = search needs
+
+enum-known-place : tie.Need-enum-known-place
+enum-known-place c = search needs
+
+same-length : tie.Need-same-length
+same-length c = search needs
+
+returns : tie.Need-returns
+returns c =
+    let a = c .before .before .before .before .before .before .before .before .before .before .before .before .before .args in
+    let e : partOf (a .part) ≡ Is Pt6302 = sym (c .before .before .before .before .before .before .before .before .before .part-of .ensures) ∙ c .before .before .before .before .before .before .before .known .given .1 ∙ ap Is (c .before .before .before .before .enum-told .given .1) in
+    (rw e (c .before .before .paint .ensures .0), rw e (c .before .before .paint .ensures .1))
+
+same-length-2 : tie.Need-same-length-2
+same-length-2 c = search needs
+
+returns-2 : tie.Need-returns-2
+returns-2 c =
+    let a = c .before .before .before .before .before .before .before .before .before .before .before .before .before .args in
+    let e : partOf (a .part) ≡ Is Pt6312 = sym (c .before .before .before .before .before .before .before .before .before .part-of .ensures) ∙ c .before .before .before .before .before .before .before .known .given .1 ∙ ap Is (c .before .before .before .before .enum-told2 .given .1) in
+    (rw e (c .before .before .paint2 .ensures .0), rw e (c .before .before .paint2 .ensures .1))
+
+same-length-3 : tie.Need-same-length-3
+same-length-3 c = search needs
+
+returns-3 : tie.Need-returns-3
+returns-3 c =
+    let a = c .before .before .before .before .before .before .before .before .before .before .before .before .before .args in
+    let e : partOf (a .part) ≡ Is Pt6315 = sym (c .before .before .before .before .before .before .before .before .before .part-of .ensures) ∙ c .before .before .before .before .before .before .before .known .given .1 ∙ ap Is (c .before .before .before .before .enum-told3 .given .1) in
+    (rw e (c .before .before .paint3 .ensures .0), rw e (c .before .before .paint3 .ensures .1))
+
+returns-4 : tie.Need-returns-4
+returns-4 c =
+    let a = c .before .before .before .before .before .before .before .args in
+    let e = sym (c .before .before .before .part-of .ensures) ∙ c .before .place .given .1 in
+    (rw e refl, rw e refl)
+
+pub paint-spec : {M : Type 1} → statement M
+paint-spec =
+    tie.close
+    (tie.spec
+    part-of-requires
+    enum-known-known
+    enum-told
+    paint-requires
+    enum-told-2
+    paint-requires-2
+    enum-told-3
+    paint-requires-3
+    enum-known-place
+    same-length
+    returns
+    same-length-2
+    returns-2
+    same-length-3
+    returns-3
+    returns-4)

@@ -1,0 +1,92 @@
+-- The whole answer of the painter: the number and its place, and every byte of the output afterwards (paper 01, "Numbers given back").
+use Prim.Native.Nat.{ℕ}
+use mathlib.Core.Bool.{Bool}
+use mathlib.Core.List.{List, [], _++_}
+use lib.ListN.{length, drop}
+use lib.Dec.{leb}
+use Rattle.rules.specs.Choice.{whether}
+use Rattle.terms.specs.declared.Place.{Place}
+use Rattle.terms.specs.declared.Part.the-variants.{Pt6302, Pt6312, Pt6315}
+use Rattle.terms.specs.declared.PartRead.{PartRead}
+use Rattle.terms.specs.declared.PartRead.the-variants.{Is, Refused}
+use Rattle.terms.specs.Part.{partOf}
+use Rattle.terms.specs.Event.{recording}
+use Rattle.segment.specs.declared.chip.Family.{Family}
+use Rattle.segment.specs.declared.chip.Family.the-variants.{Pt6312 as Old, Pt6315 as New}
+use Rattle.segment.specs.Family.{sizes}
+use Rattle.painting.specs.declared.Picture.{Picture}
+use Rattle.painting.specs.declared.SegmentPicture.{SegmentPicture}
+use Rattle.painting.specs.declared.CharacterPicture.{CharacterPicture}
+use Rattle.painting.specs.Segment as OfSegment
+use Rattle.painting.specs.Character as OfCharacter
+use Rattle.painter.specs.declared.Painting.{Painting}
+use Rattle.painter.specs.declared.Painting.the-variants.{Done, NoPart, OutOfRange, TooSmall}
+use Rattle.painter.specs.Fits.{segmentFits, characterFits}
+
+-- Paper 01's number for each case, and its place.
+abbrev pub number : Painting → ℕ
+number (Done at) = 0
+number (NoPart at) = 1
+number (OutOfRange at) = 9
+number (TooSmall at) = 10
+
+abbrev pub place : Painting → Place
+place (Done at) = at
+place (NoPart at) = at
+place (OutOfRange at) = at
+place (TooSmall at) = at
+
+-- The size of a painting in bytes.
+abbrev pub segmentSize : Family → ℕ
+segmentSize Old = 66
+segmentSize New = 94
+
+abbrev pub characterSize : ℕ
+characterSize = 172
+
+abbrev at : ℕ → Place
+at n = record { 0 = n }
+
+-- First 9, then 10, each at place 0; else done, with the length written.
+abbrev pub judged : Bool → ℕ → ℕ → Painting
+judged fits size room = whether fits (whether (leb size room) (Done (at size)) (TooSmall (at 0))) (OutOfRange (at 0))
+
+abbrev pub segmentAnswer : Family → SegmentPicture → ℕ → Painting
+segmentAnswer q p room = judged (segmentFits (sizes q) p) (segmentSize q) room
+
+abbrev pub characterAnswer : CharacterPicture → ℕ → Painting
+characterAnswer p room = judged (characterFits p) characterSize room
+
+abbrev pub answerFor : PartRead → Picture → ℕ → Painting
+answerFor (Is Pt6302) p room = characterAnswer (p .character) room
+answerFor (Is Pt6312) p room = segmentAnswer Old (p .segment) room
+answerFor (Is Pt6315) p room = segmentAnswer New (p .segment) room
+answerFor (Refused a) p room = NoPart a
+
+-- The answer, by the part byte, the picture and the length of the output.
+abbrev pub answer : ℕ → Picture → ℕ → Painting
+answer part p room = answerFor (partOf part) p room
+
+-- The recording that paints a picture.
+abbrev pub segmentStream : Family → SegmentPicture → List ℕ
+segmentStream q p = recording (OfSegment.painting (sizes q) p)
+
+abbrev pub characterStream : CharacterPicture → List ℕ
+characterStream p = recording (OfCharacter.painting p)
+
+abbrev pub streamFor : PartRead → Picture → List ℕ
+streamFor (Is Pt6302) p = characterStream (p .character)
+streamFor (Is Pt6312) p = segmentStream Old (p .segment)
+streamFor (Is Pt6315) p = segmentStream New (p .segment)
+streamFor (Refused a) p = []
+
+-- Done, the stream stands at the front and the rest is as it was; refused, all is as it was.
+abbrev pub written : Painting → List ℕ → List ℕ → List ℕ
+written (Done a) stream out = stream ++ drop (length stream) out
+written (NoPart a) stream out = out
+written (OutOfRange a) stream out = out
+written (TooSmall a) stream out = out
+
+-- The output afterwards, by what it was.
+abbrev pub output : ℕ → Picture → List ℕ → List ℕ
+output part p out = written (answer part p (length out)) (streamFor (partOf part) p) out

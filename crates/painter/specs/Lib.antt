@@ -1,0 +1,4 @@
+pub mod Fits
+pub mod Answer
+pub mod Stream
+pub mod Laws

@@ -1,0 +1,41 @@
+// The painter: a part byte, a wanted picture and a lent output become the recording that paints the picture.
+
+mod characters;
+mod segments;
+mod stream;
+
+use painting::Picture;
+use terms::Part;
+use terms::PartRead;
+use terms::Place;
+ghost use mathlib.Core.Path.{_≡_};
+ghost use lib.ListN.{length};
+ghost use Rattle.painter.specs.Answer.{answer, output};
+
+// What a painting comes to.
+pub enum Painting {
+    // Painted: the length of the recording that was written.
+    Done(Place),
+    // The part byte names no part.
+    NoPart(Place),
+    // A value of the picture is out of its range.
+    OutOfRange(Place),
+    // The output is too small.
+    TooSmall(Place),
+}
+
+// Writes the recording that paints the picture to the front of `out`. A refused painting writes nothing.
+pub fn paint(part: u8, picture: Picture, out: &mut [u8]) -> Painting
+    ensures { λ r. ⌜ (r ≡ answer part picture (length (now (out .entry)))) × (now (out .exit) ≡ output part picture (now (out .entry))) ⌝ }
+{
+    let segment = picture.segment;
+    let character = picture.character;
+    match terms::part_of(part) {
+        PartRead::Is(known) => match known {
+            Part::Pt6302 => characters::paint(character, out),
+            Part::Pt6312 => segments::paint(segment::Family::Pt6312, segment, out),
+            Part::Pt6315 => segments::paint(segment::Family::Pt6315, segment, out),
+        },
+        PartRead::Refused(place) => Painting::NoPart(place),
+    }
+}

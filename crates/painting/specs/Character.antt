@@ -1,0 +1,45 @@
+-- The painting of PT6302, and the chip that it leads to (paper 01, "Painting").
+use Prim.Native.Nat.{ℕ, _+_, _<_}
+use mathlib.Core.List.{List, [], _∷_, _++_}
+use lib.ListN.{getD}
+use lib.Dec.{ltb}
+use Rattle.rules.specs.Choice.{whether}
+use Rattle.terms.specs.declared.Event.{Event}
+use Rattle.terms.specs.Event.{strobe}
+use Rattle.character.specs.declared.chip.Position.the-variants.{Idle}
+use Rattle.character.specs.Fact.{Fact, range, dcram, cgram, adram, dcramAt, cgramAt, adramAt, column, port, duty, digits, lights, position}
+use Rattle.character.specs.Value.{lit, at-position}
+use Rattle.painting.specs.declared.CharacterPicture.{CharacterPicture}
+
+-- The picture's values are in their facts' ranges. A DCRAM cell is a byte, and the lights a name of their own.
+pub record Within (p : CharacterPicture) : Type 0 where
+  pub columns-in : (i : ℕ) → getD (p .cgram) i 0 < range (cgram i)
+  pub pairs-in : (i : ℕ) → getD (p .adram) i 0 < range (adram i)
+  pub port-in : p .port < range port
+  pub duty-in : p .duty < range duty
+  pub digits-in : p .digits < range digits
+
+-- Seven strobes: 10H and 16 bytes; 20H and 40 columns; 30H and 16 pairs; port; duty; digits; lights (0 normal, 1 off, 2 on).
+abbrev pub threeRams : List ℕ → List ℕ → List ℕ → List Event → List Event
+threeRams ds gs pairs rest = strobe (0x10 ∷ ds) ++ (strobe (0x20 ∷ gs) ++ (strobe (0x30 ∷ pairs) ++ rest))
+
+abbrev pub fourSettings : ℕ → ℕ → ℕ → ℕ → List Event
+fourSettings p u n l = strobe ((0x40 + p) ∷ []) ++ (strobe ((0x50 + u) ∷ []) ++ (strobe ((0x60 + n) ∷ []) ++ strobe ((0x70 + l) ∷ [])))
+
+abbrev pub painting : CharacterPicture → List Event
+painting p = threeRams (p .dcram) (p .cgram) (p .adram) (fourSettings (p .port) (p .duty) (p .digits) (lit (p .lights)))
+
+-- The chip that was c, painted: memory and settings are the picture's. The addresses have gone round to 0, and the transfer is over.
+abbrev pub painted : CharacterPicture → (Fact → ℕ) → Fact → ℕ
+painted p c (dcram i) = whether (ltb i 16) (getD (p .dcram) i 0) (c (dcram i))
+painted p c (cgram i) = whether (ltb i 40) (getD (p .cgram) i 0) (c (cgram i))
+painted p c (adram i) = whether (ltb i 16) (getD (p .adram) i 0) (c (adram i))
+painted p c dcramAt = 0
+painted p c cgramAt = 0
+painted p c adramAt = 0
+painted p c column = 0
+painted p c port = p .port
+painted p c duty = p .duty
+painted p c digits = p .digits
+painted p c lights = lit (p .lights)
+painted p c position = at-position Idle

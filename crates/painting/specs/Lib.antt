@@ -1,0 +1,5 @@
+pub mod Segment
+pub mod SegmentLeads
+pub mod Character
+pub mod CharacterLeads
+pub mod Demand

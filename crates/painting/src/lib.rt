@@ -1,0 +1,30 @@
+// The wanted picture of a panel, by value. What paints it, and that this leads every chip to the picture, stands in specs/.
+use character::Lights;
+use segment::Display;
+
+// A picture of a PT6312 or PT6315 panel: its memory and the settings that a painting sets.
+pub struct SegmentPicture {
+    // PT6312 uses the first 22.
+    pub cells: [u8; 36],
+    pub mode: u8,
+    pub dimming: u8,
+    pub display: Display,
+    pub led: u8,
+}
+
+// A picture of a PT6302 panel. Column k of character n stands at 5 n + k of cgram.
+pub struct CharacterPicture {
+    pub dcram: [u8; 16],
+    pub cgram: [u8; 40],
+    pub adram: [u8; 16],
+    pub port: u8,
+    pub duty: u8,
+    pub digits: u8,
+    pub lights: Lights,
+}
+
+// A picture for either kind of panel; a painting looks at the one that its part byte asks for.
+pub struct Picture {
+    pub segment: SegmentPicture,
+    pub character: CharacterPicture,
+}

@@ -1,0 +1,92 @@
+-- Moves in turn: the chips to which a row of moves may lead, and rows that surely lead to one.
+use Prim.Native.Nat.{ℕ, _<_}
+use mathlib.Core.Path.{_≡_, refl, sym, ap, _∙_, fun-ext, subst}
+use mathlib.Core.List.{List, [], _∷_, _++_, map}
+use Rattle.rules.specs.Rule.{Form, value, Rule, Outcome, becomes, anything, outcome, run}
+use Rattle.rules.specs.Change.{change}
+
+-- A fact may have the value w afterwards: the one that the move gives, or any in range where it says anything.
+abbrev pub Allows : ℕ → Outcome → ℕ → Type 0
+Allows n (becomes v) w = w ≡ v
+Allows n anything w = w < n
+
+-- x is a result of the move of the chip c.
+abbrev pub Result : {F : Type 0} → (F → ℕ) → Rule F F → (F → ℕ) → (F → ℕ) → Type 0
+Result {F} range rule c x = (f : F) → Allows (range f) (run rule c f) (x f)
+
+-- x is a chip to which the moves, one after the other, may lead from c.
+abbrev pub Ends : {F : Type 0} → (F → ℕ) → List (Rule F F) → (F → ℕ) → (F → ℕ) → Type 0
+Ends {F} range [] c x = (f : F) → x f ≡ c f
+Ends {F} range (r ∷ rs) c x = (y : F → ℕ) × Result range r c y × Ends range rs y x
+
+-- Each of the moves says what becomes of every fact, and so the moves surely lead from c to x.
+abbrev pub Surely : {F : Type 0} → List (Rule F F) → (F → ℕ) → (F → ℕ) → Type 0
+Surely {F} [] c x = (f : F) → x f ≡ c f
+Surely {F} (r ∷ rs) c x = (y : F → ℕ) × ((f : F) → run r c f ≡ becomes (y f)) × Surely rs y x
+
+allows-one : (n v w : ℕ) (o : Outcome) → o ≡ becomes v → Allows n o w → w ≡ v
+allows-one n v w o e h = subst (λ (p : Outcome). Allows n p w) e h
+
+allowed : (n v : ℕ) (o : Outcome) → o ≡ becomes v → Allows n o v
+allowed n v o e = rw e refl
+
+module _ {F : Type 0} (range : F → ℕ) where
+  -- Where moves surely lead, they may lead.
+  pub surely-ends : (rs : List (Rule F F)) (c x : F → ℕ) → Surely rs c x → Ends range rs c x
+  surely-ends [] c x h = h
+  surely-ends (r ∷ rs) c x h = (h .0, λ f. allowed (range f) (h .0 f) (run r c f) (h .1 f), surely-ends rs (h .0) x (h .2))
+
+  -- Where moves surely lead to one chip, they lead to no other.
+  pub surely-only : (rs : List (Rule F F)) (c x z : F → ℕ) → Surely rs c x → Ends range rs c z → (f : F) → z f ≡ x f
+  surely-only [] c x z h k = λ f. k f ∙ sym (h f)
+  surely-only (r ∷ rs) c x z h k =
+      let same : k .0 ≡ h .0 = fun-ext (λ f. allows-one (range f) (h .0 f) (k .0 f) (run r c f) (h .1 f) (k .1 f)) in
+      surely-only rs (h .0) x z (h .2) (subst (λ (y : F → ℕ). Ends range rs y z) same (k .2))
+
+-- Events in turn, where each event has its rule.
+abbrev pub Leads : {E F : Type 0} → (E → Rule F F) → List E → (F → ℕ) → (F → ℕ) → Type 0
+Leads move es c x = Surely (map move es) c x
+
+pub leads-append : {E F : Type 0} (move : E → Rule F F) (es ds : List E) (c y x : F → ℕ) → Leads move es c y → Leads move ds y x → Leads move (es ++ ds) c x
+leads-append move [] ds c y x h k = subst (λ (d : _). Leads move ds d x) (fun-ext h) k
+leads-append move (e ∷ es) ds c y x h k = (h .0, h .1, leads-append move es ds (h .0) y x (h .2) k)
+
+-- The same end, said in another way.
+pub surely-to : {F : Type 0} (rs : List (Rule F F)) (c x z : F → ℕ) → Surely rs c x → ((f : F) → z f ≡ x f) → Surely rs c z
+surely-to rs c x z h e = subst (λ (d : _). Surely rs c d) (sym (fun-ext e)) h
+
+-- The chip c, with the fact g made v.
+abbrev pub put : {F : Type 0} → Discrete F → F → ℕ → (F → ℕ) → F → ℕ
+put same? g v c f = elim (same? f g) [ yes e ↦ v | no n ↦ c f ]
+
+module _ {F : Type 0} (same? : Discrete F) where
+  pub put-same : (g : F) (v : ℕ) (c : F → ℕ) → put same? g v c g ≡ v
+  put-same g v c = go (same? g g)
+    where
+      go : (d : Dec (g ≡ g)) → elim d [ yes e ↦ v | no n ↦ c g ] ≡ v
+      go (yes e) = refl
+      go (no n) = absurd (n refl)
+
+  pub put-other : (g f : F) (v : ℕ) (c : F → ℕ) → ¬ (f ≡ g) → put same? g v c f ≡ c f
+  put-other g f v c h = go (same? f g)
+    where
+      go : (d : Dec (f ≡ g)) → elim d [ yes e ↦ v | no n ↦ c f ] ≡ c f
+      go (yes e) = absurd (h e)
+      go (no n) = refl
+
+  -- A fact that is made what it was.
+  pub put-kept : (g f : F) (v : ℕ) (c : F → ℕ) → c g ≡ v → put same? g v c f ≡ c f
+  put-kept g f v c h = go (same? f g)
+    where
+      go : (d : Dec (f ≡ g)) → elim d [ yes e ↦ v | no n ↦ c f ] ≡ c f
+      go (yes e) = sym (ap c e ∙ h)
+      go (no n) = refl
+
+  -- What a form makes of a chip that it sets at g.
+  pub change-put : (c y : F → ℕ) (g : F) (v : ℕ) (φ : F → Form F) (f : F) → outcome c (φ f) ≡ becomes (y f)
+      → outcome c (change same? g (value v) φ f) ≡ becomes (put same? g v y f)
+  change-put c y g v φ f h = go (same? f g)
+    where
+      go : (d : Dec (f ≡ g)) → outcome c (elim d [ yes e ↦ value v | no n ↦ φ f ]) ≡ becomes (elim d [ yes e ↦ v | no n ↦ y f ])
+      go (yes e) = refl
+      go (no n) = h
