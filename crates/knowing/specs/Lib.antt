@@ -1,0 +1,6 @@
+pub mod Standing
+pub mod Know
+pub mod Join
+pub mod Fill
+pub mod Exact
+pub mod Moves
