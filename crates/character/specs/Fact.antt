@@ -29,7 +29,7 @@ range position = 6
 
 -- What a fact is of. Settings, in demand 3, are all facts but memory and position; this part has no keys and no switches.
 pub data Sort : Type 0 where
-  memory setting place : Sort
+  memory setting transfer : Sort
 
 abbrev pub sort : Fact → Sort
 sort (dcram i) = memory
@@ -43,10 +43,10 @@ sort port = setting
 sort duty = setting
 sort digits = setting
 sort lights = setting
-sort position = place
+sort position = transfer
 
 -- One thing for each sort.
 abbrev pub bySort : {A : Type 0} → A → A → A → Sort → A
 bySort m s p memory = m
 bySort m s p setting = s
-bySort m s p place = p
+bySort m s p transfer = p

@@ -7,7 +7,7 @@ use borrow.Author.Tests.{eqb-false}
 use Rattle.rules.specs.Choice.{whether-all, of6-all}
 use Rattle.rules.specs.Rule.{value, Rule, gives}
 use Rattle.rules.specs.Change.{keep}
-use Rattle.rules.specs.Range.{Ranged, InRange, keep-fits, change-fits}
+use Rattle.rules.specs.Range.{Good, moves-good, Ranged, InRange, keep-fits, change-fits}
 use Rattle.terms.specs.declared.Event.{Event}
 use Rattle.terms.specs.declared.Event.the-variants.{Power, Falls, ByteIn, Rises, Gap, Unfinished, Keys, Switches, ByteOut}
 use Rattle.terms.specs.Event.{Bytes}
@@ -22,6 +22,9 @@ use Rattle.character.specs.Value.{lit, at-position}
 use Rattle.character.specs.Command.{lightsOf, spareOf, commandOf}
 use Rattle.character.specs.Move.{Forms, sets, then, commanded, drawn, move}
 use Rattle.character.specs.Laws.{every}
+use Rattle.character.specs.declared.chip.Character.{Character}
+use Rattle.character.specs.declared.chip.Moved.{Moved}
+use Rattle.character.specs.View.{view, covers, By}
 
 lit-fits : (l : Lights) → lit l < 3
 lit-fits Normal = omega arith
@@ -110,3 +113,7 @@ ranged (Unfinished n) h = then-fits Idle
 ranged (Keys k0 k1 k2 k3) h = kept
 ranged (Switches v) h = kept
 ranged ByteOut h = kept
+
+-- A move of a chip in range, under an event that carries bytes, gives a chip in range.
+pub stays-good : (e : Event) → Bytes e → (c : Character) (m : Moved) → By (move e) c m → Good range (view c) → Good range (view (m .chip))
+stays-good e h c m b g = moves-good range (move e) (view c) (view (m .chip)) (covers (m .any)) (ranged e h) g b

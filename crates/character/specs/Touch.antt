@@ -1,13 +1,14 @@
 -- Which facts an event leaves alone, and when one may be left as anything. The argument in each: every form of the event's rule has the
 -- fact as it was, or says what becomes of it.
-use Prim.Native.Nat.{ℕ, _+_, _*_, _%_}
-use mathlib.Core.Path.{refl}
+use Prim.Native.Nat.{ℕ, zero, suc, _+_, _*_, _%_}
+use mathlib.Core.Path.{_≡_, refl}
+use mathlib.Core.Bool.{false}
 use mathlib.Core.Logic.{_≢_}
 use lib.Dec.{eqb}
 use Rattle.rules.specs.Choice.{whether-all, of6-all}
-use Rattle.rules.specs.Rule.{value}
+use Rattle.rules.specs.Rule.{value, gives, look, run}
 use Rattle.rules.specs.Change.{keep}
-use Rattle.rules.specs.Touch.{Leaves, Settles, change-leaves, AllSettle, keep-settles, change-settles}
+use Rattle.rules.specs.Touch.{Leaves, Settles, settles, isAnything, change-leaves, AllSettle, keep-settles, change-settles}
 use Rattle.terms.specs.declared.Event.{Event}
 use Rattle.terms.specs.declared.Event.the-variants.{Power, Falls, ByteIn, Rises, Gap, Unfinished, Keys, Switches, ByteOut}
 use Rattle.character.specs.declared.command.Command.{Command}
@@ -17,7 +18,7 @@ use Rattle.character.specs.declared.chip.Position.the-variants.{Dcram as
 use Rattle.character.specs.Fact.{Fact, same?, dcram, cgram, adram, dcramAt, cgramAt, adramAt, column, port, duty, digits, lights, position}
 use Rattle.character.specs.Value.{lit, at-position}
 use Rattle.character.specs.Command.{commandOf}
-use Rattle.character.specs.Move.{Forms, sets, then, commanded, drawn, move}
+use Rattle.character.specs.Move.{Forms, sets, then, commanded, shown, drawn, marked, byteIn, move}
 
 -- The strobe and unfinished bits leave every fact alone but the position.
 pub strobe-leaves : (n : ℕ) (f : Fact) → f ≢ position → Leaves f (move Falls) × Leaves f (move Rises) × Leaves f (move (Unfinished n))
@@ -40,7 +41,7 @@ Defined (Light l) = Unit
 Defined Nothing = Unit
 Defined Undefined = ⊥
 
--- Power and a gap leave facts as anything, and a byte may where it is read as an undefined command.
+-- Power and a gap leave facts as anything, and so may a byte that would be an undefined command.
 abbrev pub Settled : Event → Type 0
 Settled Power = ⊥
 Settled Falls = Unit
@@ -80,7 +81,7 @@ drawn-settles b a k f =
     (λ _. sets-settle cgramAt ((a % 8 + 1) % 8) (sets column 0 cells) (sets-settle column 0 cells h) f)
     (λ _. sets-settle column (k % 5 + 1) cells h f)
 
--- Only those events leave a fact as anything.
+-- No other event leaves a fact as anything.
 pub settled : (e : Event) → Settled e → (f : Fact) → Settles f (move e)
 settled Power h = absurd h
 settled Falls h = sets-settle position _ keep kept
@@ -96,3 +97,28 @@ settled (Unfinished n) h = sets-settle position _ keep kept
 settled (Keys k0 k1 k2 k3) h = kept
 settled (Switches v) h = kept
 settled ByteOut h = kept
+
+-- A byte leaves a fact as anything only as a first byte that is an undefined command; data bytes never do.
+pub byte-settles : (b : ℕ) (c : Fact → ℕ) → (c position ≡ 1 → Defined (commandOf b)) → (f : Fact) → isAnything (run (move (ByteIn b)) c f) ≡ false
+byte-settles b c h f = go (c position) refl
+  where
+    shown-settles : isAnything (run (look dcramAt (shown b)) c f) ≡ false
+    shown-settles =
+        settles f (look dcramAt (shown b)) c
+        (λ a. sets-settle dcramAt ((a % 16 + 1) % 16) (sets (dcram (a % 16)) b keep) (sets-settle (dcram (a % 16)) b keep kept) f)
+
+    columns-settle : isAnything (run (look cgramAt (λ a. look column (drawn b a))) c f) ≡ false
+    columns-settle = settles f (look cgramAt (λ a. look column (drawn b a))) c (λ a k. drawn-settles b a k f)
+
+    marked-settles : isAnything (run (look adramAt (marked b)) c f) ≡ false
+    marked-settles =
+        settles f (look adramAt (marked b)) c
+        (λ a. sets-settle adramAt ((a % 16 + 1) % 16) (sets (adram (a % 16)) (b % 4) keep) (sets-settle (adram (a % 16)) (b % 4) keep kept) f)
+
+    go : (q : ℕ) → c position ≡ q → isAnything (run (byteIn b q) c f) ≡ false
+    go zero e = refl
+    go (suc zero) e = settles f (gives (commanded (commandOf b))) c (commanded-settles (commandOf b) (h e) f)
+    go (suc (suc zero)) e = shown-settles
+    go (suc (suc (suc zero))) e = columns-settle
+    go (suc (suc (suc (suc zero)))) e = marked-settles
+    go (suc (suc (suc (suc (suc n))))) e = refl

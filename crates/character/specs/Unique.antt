@@ -16,7 +16,7 @@ use Rattle.character.specs.Fact.{Fact, dcram, cgram, adram, dcramAt, cgr
 use Rattle.character.specs.Value.{lit, at-position}
 use Rattle.character.specs.View.{view, covers, By}
 
--- The lists are as long as the arrays of the type, as those of every chip are that code hands over.
+-- The lists are as long as the arrays of the type. This holds of every chip that code hands over.
 pub record Shaped (c : Character) : Type 0 where
   pub dcram : length (c .dcram) ≡ 16
   pub cgram : length (c .cgram) ≡ 40

@@ -71,7 +71,7 @@ fn to_draw(chip: Character, byte: u8) -> Moved
     let old = chip.cgram;
     let character = chip.cgram_at.0 % 8;
     let column = chip.column % 5;
-    let cgram = forty_with(old, Address(character * 5 + column), byte % 128);
+    let cgram = forty_with(old, character * 5 + column, byte % 128);
     if column == 4 {
         let cgram_at = Address((character + 1) % 8);
         Moved {
@@ -107,12 +107,12 @@ fn sixteen_with(cells: [u8; 16], cell: Address, byte: u8) -> [u8; 16]
 }
 
 // Forty columns with one of them made anew.
-fn forty_with(columns: [u8; 40], cell: Address, byte: u8) -> [u8; 40]
-    requires { ⌜ cell .0 < 40 ⌝ }
-    ensures { λ r. ⌜ (r ≡ set columns (cell .0) byte) × (length columns ≡ 40) ⌝ }
+fn forty_with(columns: [u8; 40], number: u8, byte: u8) -> [u8; 40]
+    requires { ⌜ number < 40 ⌝ }
+    ensures { λ r. ⌜ (r ≡ set columns number byte) × (length columns ≡ 40) ⌝ }
 {
     let mut new = columns;
-    let i = cell.0 as usize;
+    let i = number as usize;
     new[i] = byte;
     new
 }

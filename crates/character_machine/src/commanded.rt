@@ -40,12 +40,12 @@ pub fn commanded(chip: Character, command: Command) -> Moved
         Command::Digits(digits) => at(Character { digits, ..chip }, Position::Ignoring),
         Command::Light(lights) => at(Character { lights, ..chip }, Position::Ignoring),
         Command::Nothing => at(chip, Position::Ignoring),
-        Command::Undefined => at_random(chip),
+        Command::Undefined => left_open(chip),
     }
 }
 
 // Everything but the position is anything.
-fn at_random(chip: Character) -> Moved
+fn left_open(chip: Character) -> Moved
     ensures { λ r. ⌜ By (gives undefined) chip r ⌝ }
 {
     Moved {

@@ -1,15 +1,15 @@
 -- P14: the painting of a blank PT6312, byte for byte, and the answer with just enough room and with one byte less.
 use mathlib.Core.Path.{_≡_, refl}
 use mathlib.Core.List.{List, [], _∷_, _++_}
-use Prim.Native.Nat.{ℕ}
+use Prim.Native.Nat.{ℕ, zero, suc}
 use lib.ListN.{replicate}
 use Rattle.segment.specs.declared.chip.Display.the-variants.{Off}
 use Rattle.segment.specs.Family.{sizes}
 use Rattle.character.specs.declared.chip.Lights.the-variants.{Normal}
 use Rattle.terms.specs.Part.{partOf}
 use Rattle.painting.specs.declared.Picture.{Picture}
-use Rattle.painter.specs.declared.Painting.the-variants.{Done, TooSmall}
-use Rattle.painter.specs.Answer.{answer, output, streamFor, number}
+use Rattle.painter.specs.declared.Painted.the-variants.{Done, TooSmall}
+use Rattle.painter.specs.Answer.{answer, output, streamFor}
 
 -- All 00, mode 7, LED 15, dimming 0, off. PT6312 does not look at the other half.
 abbrev blank : Picture
@@ -20,7 +20,8 @@ blank = record {
 
 -- `03 00`, n times.
 abbrev zeros : ℕ → List ℕ
-zeros n = Rattle.terms.specs.Event.recording (replicate n (Rattle.terms.specs.declared.Event.the-variants.ByteIn 0))
+zeros zero = []
+zeros (suc n) = 0x03 ∷ 0x00 ∷ zeros n
 
 abbrev bytes : List ℕ
 bytes =
@@ -40,7 +41,7 @@ pub p14-too-small : answer 0x12 blank 65 ≡ TooSmall (record { 0 = 0 })
 unfolding sizes
 p14-too-small = refl
 
--- What stands behind the end is as it was.
-pub p14-behind : output 0x12 blank (bytes ++ (0x77 ∷ [])) ≡ bytes ++ (0x77 ∷ [])
+-- A fresh output ends as those bytes, and what stands behind them is as it was.
+pub p14-output : output 0x12 blank (replicate 66 0xEE ++ (0x77 ∷ [])) ≡ bytes ++ (0x77 ∷ [])
 unfolding sizes
-p14-behind = refl
+p14-output = refl

@@ -18,7 +18,7 @@ not-known v e =
 pub known-one : (v w : ℕ) → known v ≡ known w → v ≡ w
 known-one v w e = cc
 
-join-both : (s t : Standing) (v : ℕ) → s ≡ known v → t ≡ known v → join s t ≡ known v
+pub join-both : (s t : Standing) (v : ℕ) → s ≡ known v → t ≡ known v → join s t ≡ known v
 unfolding join keptIf
 join-both s t v p q = rw (p, q, eq-eqb v v refl) refl
 
@@ -27,7 +27,7 @@ unfolding keptIf
 kept-test true v w e = (refl, known-one v w e)
 kept-test false v w e = absurd (not-known w e)
 
-join-known : (s t : Standing) (v : ℕ) → join s t ≡ known v → (s ≡ known v) × (t ≡ known v)
+pub join-known : (s t : Standing) (v : ℕ) → join s t ≡ known v → (s ≡ known v) × (t ≡ known v)
 unfolding join
 join-known (known a) (known b) v e =
     let h = kept-test (eqb a b) a v e in
@@ -55,3 +55,36 @@ common-each (suc zero) s v e w l =
 common-each (suc (suc n)) s v e w l =
     let both = join-known (common (suc n) s) (s (suc n)) v e in
     last-or-earlier n w s v l (both .1) (λ h. common-each (suc n) s v (both .0) w h) (ℕ-discrete w (suc n))
+
+-- Standings that are known to the same values are one.
+pub same-standing : (s t : Standing) → ((v : ℕ) → s ≡ known v → t ≡ known v) → ((v : ℕ) → t ≡ known v → s ≡ known v) → s ≡ t
+same-standing (known v) t h k = sym (h v refl)
+same-standing unknown (known w) h k = k w refl
+same-standing unknown unknown h k = refl
+
+-- All ways are the same.
+pub common-same : (n : ℕ) (s : ℕ → Standing) (a : Standing) → 0 < n → ((w : ℕ) → w < n → s w ≡ a) → common n s ≡ a
+common-same n s a p h =
+    same-standing (common n s) a
+    (λ v e. sym (h 0 p) ∙ common-each n s v e 0 p)
+    (λ v e. common-all n s v p (λ w l. h w l ∙ e))
+
+-- One way has a, all others b, and there is another.
+pub common-two : (n : ℕ) (s : ℕ → Standing) (a b : Standing) (m o : ℕ) → m < n → o < n → ¬ (o ≡ m) → s m ≡ a → ((w : ℕ) → w < n → ¬ (w ≡ m) → s w ≡ b) → common n s ≡ join a b
+common-two n s a b m o lm lo d ha hb =
+    same-standing (common n s) (join a b)
+    (λ v e. join-both a b v (sym ha ∙ common-each n s v e m lm) (sym (hb o lo d) ∙ common-each n s v e o lo))
+    (λ v e.
+    let j = join-known a b v e in
+    common-all n s v (omega arith) (λ w l. by w l (ℕ-discrete w m) (j .0) (j .1)))
+  where
+    by : (w : ℕ) → w < n → Dec (w ≡ m) → {v : ℕ} → a ≡ known v → b ≡ known v → s w ≡ known v
+    by w l (yes p) x y = rw p (ha ∙ x)
+    by w l (no p) x y = hb w l p ∙ y
+
+-- Two ways differ.
+pub common-apart : (n : ℕ) (s : ℕ → Standing) (i j v w : ℕ) → i < n → j < n → ¬ (v ≡ w) → s i ≡ known v → s j ≡ known w → common n s ≡ unknown
+common-apart n s i j v w li lj d p q =
+    same-standing (common n s) unknown
+    (λ u e. absurd (d (known-one v w (sym p ∙ common-each n s u e i li ∙ sym (common-each n s u e j lj) ∙ q))))
+    (λ u e. absurd (not-known u e))

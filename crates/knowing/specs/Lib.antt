@@ -4,3 +4,4 @@ pub mod Join
 pub mod Fill
 pub mod Exact
 pub mod Moves
+pub mod Look

@@ -2,7 +2,7 @@
 // values are from paper 01.
 use character::Lights;
 use libc::STDOUT_FILENO;
-use painter::Painting;
+use painter::Painted;
 use painting::CharacterPicture;
 use painting::Picture;
 use painting::SegmentPicture;
@@ -47,7 +47,7 @@ fn p14() {
     show(b"P14, PT6312 all 00\n", 0x12, picture, 68);
 }
 
-// Every setting at its highest, and the first and the last cell marked.
+// Mode and dimming at their highest, two lamps, and the first and the last cell marked.
 fn pt6315() {
     let mut cells = [0x10u8; 36];
     cells[0] = 0xA5;
@@ -66,7 +66,7 @@ fn pt6315() {
     show(b"PT6315\n", 0x15, picture, 95);
 }
 
-// A reading, a character of five columns, and two marks.
+// The first and the last cell of each RAM marked.
 fn pt6302() {
     let mut dcram = [0x20u8; 16];
     dcram[0] = 0x2D;
@@ -101,15 +101,36 @@ fn refused() {
     show(b"part 14\n", 0x14, good, 3);
     show(b"room 65 on PT6312\n", 0x12, good, 65);
     show(b"room 171 on PT6302\n", 0x02, good, 171);
-    let mode = Picture {
-        segment: SegmentPicture { mode: 8, ..blank() },
-        character: spaces(),
-    };
-    show(b"mode 8 on PT6312\n", 0x12, mode, 3);
+    show(b"mode 8 on PT6312\n", 0x12, with_mode(8), 3);
     show(b"LED 16\n", 0x15, with_led(16), 3);
     show(b"dimming 8\n", 0x15, with_dimming(8), 3);
+    show(b"mode 9 on PT6315\n", 0x15, with_mode(9), 3);
+    show(b"room 93 on PT6315\n", 0x15, with_mode(8), 93);
+    show(b"mode 9 on no part\n", 0x13, with_mode(9), 3);
+    show(b"port 4\n", 0x02, with_settings(4, 0, 0), 3);
+    show(b"duty 8\n", 0x02, with_settings(0, 8, 0), 3);
+    show(b"digits 8\n", 0x02, with_settings(0, 0, 8), 3);
     show(b"a pair of 4\n", 0x02, with_pair(4), 3);
     show(b"a column of 80\n", 0x02, with_column(0x80), 3);
+}
+
+fn with_mode(mode: u8) -> Picture {
+    Picture {
+        segment: SegmentPicture { mode, ..blank() },
+        character: spaces(),
+    }
+}
+
+fn with_settings(port: u8, duty: u8, digits: u8) -> Picture {
+    Picture {
+        segment: blank(),
+        character: CharacterPicture {
+            port,
+            duty,
+            digits,
+            ..spaces()
+        },
+    }
 }
 
 fn with_led(led: u8) -> Picture {
@@ -153,10 +174,10 @@ fn show(name: &[u8], part: u8, picture: Picture, room: u8) {
 
 fn painted(part: u8, picture: Picture, out: &mut [u8]) {
     match painter::paint(part, picture, out) {
-        Painting::Done(place) => number(b"  0 at ", place.0),
-        Painting::NoPart(place) => number(b"  1 at ", place.0),
-        Painting::OutOfRange(place) => number(b"  9 at ", place.0),
-        Painting::TooSmall(place) => number(b"  10 at ", place.0),
+        Painted::Done(place) => number(b"  0 at ", place.0),
+        Painted::NoPart(place) => number(b"  1 at ", place.0),
+        Painted::OutOfRange(place) => number(b"  9 at ", place.0),
+        Painted::TooSmall(place) => number(b"  10 at ", place.0),
     }
     bytes(&out[..]);
     io::write_all(STDOUT_FILENO, b"\n");

@@ -10,13 +10,20 @@ use borrow.Author.Tests.{le-leb, lt-leb}
 use Rattle.segment.specs.declared.chip.Family.{Family}
 use Rattle.segment.specs.declared.chip.Family.the-variants.{Pt6312, Pt6315}
 use Rattle.segment.specs.Family.{sizes}
-use Rattle.painter.specs.declared.Painting.{Painting}
-use Rattle.painter.specs.declared.Painting.the-variants.{Done, OutOfRange, TooSmall}
-use Rattle.painter.specs.Answer.{segmentSize, judged, written}
+use Rattle.painter.specs.declared.Painted.{Painted}
+use Rattle.painter.specs.declared.Painted.the-variants.{Done, OutOfRange, TooSmall}
+use Rattle.painter.specs.Answer.{number, place, segmentSize, characterSize, judged, judgedNumber, judgedPlace, answerFor, numberFor, placeFor, written}
+use Rattle.painter.specs.Fits.{segmentFits, characterFits}
+use Rattle.painting.specs.declared.Picture.{Picture}
+use Rattle.terms.specs.declared.Part.the-variants.{Pt6302, Pt6312 as OfPt6312, Pt6315 as OfPt6315}
+use Rattle.terms.specs.declared.PartRead.{PartRead}
+use Rattle.terms.specs.declared.PartRead.the-variants.{Is, Refused}
+use lib.Dec.{leb}
+use Rattle.rules.specs.Choice.{whether}
 use Rattle.painter.specs.Stream.{front}
 
 -- The answer r and the output `now′` are those of a picture with the test t, the size n and that stream, on the output `out`.
-abbrev pub Answers : Bool → ℕ → List ℕ → List ℕ → Painting → List ℕ → Type 0
+abbrev pub Answers : Bool → ℕ → List ℕ → List ℕ → Painted → List ℕ → Type 0
 Answers t n stream out r now′ = (r ≡ judged t n (length out)) × (now′ ≡ written (judged t n (length out)) stream out)
 
 pub out-of-range : (t : Bool) (n : ℕ) (stream out : List ℕ) → t ≡ false → Answers t n stream out (OutOfRange (record { 0 = 0 })) out
@@ -37,3 +44,20 @@ pub size-is : (q : Family) → segmentSize q ≡ 22 + 2 * sizes q .cells
 unfolding sizes
 size-is Pt6312 = refl
 size-is Pt6315 = refl
+
+-- The answer has the number and the place of the table.
+judged-number : (t : Bool) (n room : ℕ) → (number (judged t n room) ≡ judgedNumber t n room) × (place (judged t n room) .0 ≡ judgedPlace t n room)
+judged-number t n room = go t (leb n room)
+  where
+    go : (t u : Bool) → (number (whether t (whether u (Done (record { 0 = n })) (TooSmall (record { 0 = 0 }))) (OutOfRange (record { 0 = 0 }))) ≡ whether t (whether u 0 10) 9)
+        × (place (whether t (whether u (Done (record { 0 = n })) (TooSmall (record { 0 = 0 }))) (OutOfRange (record { 0 = 0 }))) .0 ≡ whether t (whether u n 0) 0)
+    go true true = (refl, refl)
+    go true false = (refl, refl)
+    go false true = (refl, refl)
+    go false false = (refl, refl)
+
+pub answer-number : (q : PartRead) (p : Picture) (room : ℕ) → (number (answerFor q p room) ≡ numberFor q p room) × (place (answerFor q p room) .0 ≡ placeFor q p room)
+answer-number (Is Pt6302) p room = judged-number (characterFits (p .character)) characterSize room
+answer-number (Is OfPt6312) p room = judged-number (segmentFits (sizes Pt6312) (p .segment)) (segmentSize Pt6312) room
+answer-number (Is OfPt6315) p room = judged-number (segmentFits (sizes Pt6315) (p .segment)) (segmentSize Pt6315) room
+answer-number (Refused a) p room = (refl, refl)

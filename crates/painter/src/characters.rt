@@ -1,5 +1,5 @@
-// Painting PT6302.
-use crate::Painting;
+// Painted PT6302.
+use crate::Painted;
 use crate::stream::write_single;
 use crate::stream::write_strobe;
 use character::Lights;
@@ -16,15 +16,15 @@ ghost use Rattle.painter.specs.Stream.{ramsStream};
 ghost use Rattle.painter.specs.Fits.{allBelow, characterFits};
 ghost use Rattle.painter.specs.Answer.{characterAnswer, characterStream, written};
 
-pub fn paint(picture: CharacterPicture, out: &mut [u8]) -> Painting
+pub fn paint(picture: CharacterPicture, out: &mut [u8]) -> Painted
     ensures { λ r. ⌜ (r ≡ characterAnswer picture (length (now (out .entry))))
         × (now (out .exit) ≡ written (characterAnswer picture (length (now (out .entry)))) (characterStream picture) (now (out .entry))) ⌝ }
 {
     if !fits(picture) {
-        return Painting::OutOfRange(Place(0));
+        return Painted::OutOfRange(Place(0));
     }
     if out.len() < 172 {
-        return Painting::TooSmall(Place(0));
+        return Painted::TooSmall(Place(0));
     }
     let dcram = picture.dcram;
     let cgram = picture.cgram;
@@ -32,7 +32,7 @@ pub fn paint(picture: CharacterPicture, out: &mut [u8]) -> Painting
     let lights = picture.lights;
     let at = write_rams(out, dcram, cgram, adram);
     write_settings(out, at, picture.port, picture.duty, picture.digits, lights);
-    Painting::Done(Place(172))
+    Painted::Done(Place(172))
 }
 
 fn fits(picture: CharacterPicture) -> bool

@@ -10,10 +10,11 @@ use terms::PartRead;
 use terms::Place;
 ghost use mathlib.Core.Path.{_≡_};
 ghost use lib.ListN.{length};
-ghost use Rattle.painter.specs.Answer.{answer, output};
+ghost use Rattle.terms.specs.Part.{partOf};
+ghost use Rattle.painter.specs.Answer.{answer, output, number, place, numberFor, placeFor};
 
 // What a painting comes to.
-pub enum Painting {
+pub enum Painted {
     // Painted: the length of the recording that was written.
     Done(Place),
     // The part byte names no part.
@@ -25,8 +26,9 @@ pub enum Painting {
 }
 
 // Writes the recording that paints the picture to the front of `out`. A refused painting writes nothing.
-pub fn paint(part: u8, picture: Picture, out: &mut [u8]) -> Painting
+pub fn paint(part: u8, picture: Picture, out: &mut [u8]) -> Painted
     ensures { λ r. ⌜ (r ≡ answer part picture (length (now (out .entry)))) × (now (out .exit) ≡ output part picture (now (out .entry))) ⌝ }
+    ensures { λ r. ⌜ (number r ≡ numberFor (partOf part) picture (length (now (out .entry)))) × (place r .0 ≡ placeFor (partOf part) picture (length (now (out .entry)))) ⌝ }
 {
     let segment = picture.segment;
     let character = picture.character;
@@ -36,6 +38,6 @@ pub fn paint(part: u8, picture: Picture, out: &mut [u8]) -> Painting
             Part::Pt6312 => segments::paint(segment::Family::Pt6312, segment, out),
             Part::Pt6315 => segments::paint(segment::Family::Pt6315, segment, out),
         },
-        PartRead::Refused(place) => Painting::NoPart(place),
+        PartRead::Refused(place) => Painted::NoPart(place),
     }
 }

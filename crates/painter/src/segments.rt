@@ -1,5 +1,5 @@
-// Painting PT6312 and PT6315.
-use crate::Painting;
+// Painted PT6312 and PT6315.
+use crate::Painted;
 use crate::stream::write_single;
 use crate::stream::write_strobe;
 use painting::SegmentPicture;
@@ -17,23 +17,23 @@ ghost use Rattle.painting.specs.Segment.{fiveStrobes};
 ghost use Rattle.painter.specs.Fits.{segmentFits};
 ghost use Rattle.painter.specs.Answer.{segmentSize, segmentAnswer, segmentStream, written};
 
-pub fn paint(family: Family, picture: SegmentPicture, out: &mut [u8]) -> Painting
+pub fn paint(family: Family, picture: SegmentPicture, out: &mut [u8]) -> Painted
     ensures { λ r. ⌜ (r ≡ segmentAnswer family picture (length (now (out .entry))))
         × (now (out .exit) ≡ written (segmentAnswer family picture (length (now (out .entry)))) (segmentStream family picture) (now (out .entry))) ⌝ }
 {
     if !fits(family, picture) {
-        return Painting::OutOfRange(Place(0));
+        return Painted::OutOfRange(Place(0));
     }
     let size = size_of(family);
     if out.len() < size {
-        return Painting::TooSmall(Place(0));
+        return Painted::TooSmall(Place(0));
     }
     let sizes = family.sizes();
     let cells = picture.cells;
     let display = picture.display;
     let control = control_of(picture.dimming, display);
     write(out, cells, sizes.cells, picture.mode, picture.led, control);
-    Painting::Done(Place(size))
+    Painted::Done(Place(size))
 }
 
 fn fits(family: Family, picture: SegmentPicture) -> bool

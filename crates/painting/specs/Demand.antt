@@ -1,4 +1,4 @@
--- Demand 2, the other way: fed to a chip in any state, the stream that paints a picture leaves exactly that memory and those settings. Of
+-- The second half of demand 2: fed to a chip in any state, the stream that paints a picture leaves exactly that memory and those settings. Of
 -- all the chips to which its events may lead, by the rules, there is one and it is the painted chip.
 use Prim.Native.Nat.{ℕ}
 use mathlib.Core.Path.{_≡_}

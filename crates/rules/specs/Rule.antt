@@ -40,7 +40,7 @@ abbrev pub told : ℕ → Outcome → Told
 told old (becomes v) = record { value = v; any = false }
 told old anything = record { value = old; any = true }
 
--- A chip that had the values `old` has the values `new`, with those facts anything that `any` says, as the rule has it: the whole answer
--- of a move, fact by fact.
+-- A chip that had the values `old` has the values `new`, and `any` says which facts are anything, as the rule has it: the whole answer of a
+-- move, fact by fact.
 abbrev pub Moves : {F : Type 0} → Rule F F → (F → ℕ) → (F → ℕ) → (F → Bool) → Type 0
 Moves {F} rule old new any = (f : F) → _≡_ {A = Told} (record { value = new f; any = any f }) (told (old f) (run rule old f))

@@ -16,7 +16,7 @@ pub data Fact : Type 0 where
 abbrev pub same? : Discrete Fact
 same? = Fact-discrete ℕ-discrete
 
--- A value is a number below this one. Facts that a part lacks, as a cell past its last, have a range too, and no rule looks at them.
+-- A value is a number below this one. Facts that a part lacks, as a cell past its last, have a range too; no rule looks at them for a chip in range.
 abbrev pub range : Sizes → Fact → ℕ
 range s (cell i) = 256
 range s address = suc (s .cells)
@@ -33,7 +33,7 @@ range s position = 4
 
 -- What a fact is of. Settings, in demand 3, are all facts but memory, keys, switches and position.
 pub data Sort : Type 0 where
-  memory setting input place : Sort
+  memory setting input transfer : Sort
 
 abbrev pub sort : Fact → Sort
 sort (cell i) = memory
@@ -47,11 +47,11 @@ sort led = setting
 sort (key i) = input
 sort switches = input
 sort readCount = setting
-sort position = place
+sort position = transfer
 
 -- One thing for each sort.
 abbrev pub bySort : {A : Type 0} → A → A → A → A → Sort → A
 bySort m s i p memory = m
 bySort m s i p setting = s
 bySort m s i p input = i
-bySort m s i p place = p
+bySort m s i p transfer = p

@@ -11,7 +11,7 @@ use Rattle.rules.specs.Rule.{value, copy, Told, told, outcome, becomes}
 use Rattle.rules.specs.Change.{keep, change}
 use Rattle.rules.specs.Laws.{becomes-set, told-set, became}
 use Rattle.segment.specs.declared.chip.Sizes.{Sizes}
-use Rattle.segment.specs.Move.{Forms, sets, latched}
+use Rattle.segment.specs.Move.{Forms, sets, keysLatched}
 use Rattle.segment.specs.declared.chip.Segment.{Segment}
 use Rattle.segment.specs.View.{view}
 use Rattle.segment.specs.declared.chip.Family.{Family}
@@ -20,10 +20,10 @@ use Rattle.segment.specs.Family.{sizes}
 use Rattle.segment.specs.Fact.{Fact, same?, cell, address, dataMode, stepping, mode, dimming, display, led, key, switches, readCount, position}
 
 -- Each part has a place for its cells and its key bytes.
-pub fits : (p : Family) → (sizes p .cells ≤ 36) × (sizes p .keys ≤ 4)
+pub room : (p : Family) → (sizes p .cells ≤ 36) × (sizes p .keys ≤ 4)
 unfolding sizes
-fits Pt6312 = omega arith
-fits Pt6315 = omega arith
+room Pt6312 = omega arith
+room Pt6315 = omega arith
 
 -- What holds of each fact holds of all.
 pub every : (P : Fact → Type 0) → ((i : ℕ) → P (cell i)) → P address → P dataMode → P stepping → P mode → P dimming → P display → P led
@@ -69,7 +69,7 @@ fourth-length false l k3 = refl
 -- The key bytes as the rule has them: each set in its turn, the fourth where the part has one.
 pub key-latched : (s : Sizes) (c : Segment) (k0 k1 k2 k3 : ℕ) (rest new : List ℕ) (i : ℕ)
     → rest ≡ whether (ltb 3 (s .keys)) (set (c .keys) 3 k3) (c .keys) → length (c .keys) ≡ 4 → new ≡ set (set (set rest 2 k2) 1 k1) 0 k0
-    → _≡_ {A = Told} (record { value = getD new i 0; any = false }) (told (view c (key i)) (outcome (view c) (latched s k0 k1 k2 k3 (key i))))
+    → _≡_ {A = Told} (record { value = getD new i 0; any = false }) (told (view c (key i)) (outcome (view c) (keysLatched s k0 k1 k2 k3 (key i))))
 key-latched s c k0 k1 k2 k3 rest new i e n d =
     let t = ltb 3 (s .keys) in
     let l3 : List ℕ = whether t (set (c .keys) 3 k3) (c .keys) in

@@ -61,6 +61,7 @@ tested f = bySort free free (copy f) (value (at-position Ignoring)) (sort f)
 abbrev pub setting : ℕ → Forms
 setting i = sets stepping i (sets readCount 0 (then Open))
 
+-- What each command does. Control, as mode, ends in ignoring (H).
 abbrev pub commanded : Command → Rule Fact Fact
 commanded (Mode m) = look mode (toMode m)
 commanded Test = gives tested
@@ -77,7 +78,7 @@ after s i = whether (ltb (i + 1) (s .cells)) (At (record { 0 = i + 1 })) Invalid
 abbrev pub storedAt : Sizes → ℕ → ℕ → ℕ → Rule Fact Fact
 storedAt s b i = of2 (gives (sets address (pointer (after s i)) (sets (cell i) b keep))) (gives (sets (cell i) b keep))
 
--- Write display, by the address: an invalid one stores nothing and stays (H).
+-- Write display, by the address: an invalid one stores nothing and stays (001, 002).
 abbrev pub stored : Sizes → ℕ → ℕ → Rule Fact Fact
 stored s b zero = nothing
 stored s b (suc i) = whether (ltb i (s .cells)) (look stepping (storedAt s b i)) nothing
@@ -103,18 +104,18 @@ abbrev pub byteOut : ℕ → Rule Fact Fact
 byteOut = of4 nothing nothing (look dataMode readOut) nothing
 
 -- 07 stores what it carries; PT6312 drops the fourth byte.
-abbrev pub latched : Sizes → ℕ → ℕ → ℕ → ℕ → Forms
-latched s k0 k1 k2 k3 =
+abbrev pub keysLatched : Sizes → ℕ → ℕ → ℕ → ℕ → Forms
+keysLatched s k0 k1 k2 k3 =
     sets (key 0) k0
     (sets (key 1) k1
     (sets (key 2) k2
     (change same? (key 3) (whether (ltb 3 (s .keys)) (value k3) (copy (key 3))) keep)))
 
 -- 08 stores what it carries, and is no event of a part without switches. A number above 15, which no recording carries, counts by its low bits.
-abbrev pub switched : Sizes → ℕ → Forms
-switched s v = whether (s .switched) (sets switches (v % 16) keep) keep
+abbrev pub switchesLatched : Sizes → ℕ → Forms
+switchesLatched s v = whether (s .switched) (sets switches (v % 16) keep) keep
 
--- What each event does.
+-- What each event does. The strobe may fall when it is low already (H).
 abbrev pub move : Sizes → Event → Rule Fact Fact
 move s Power = gives (powered s)
 move s Falls = gives (then First)
@@ -122,6 +123,6 @@ move s (ByteIn b) = look position (byteIn s b)
 move s Rises = gives (then Idle)
 move s Gap = gives (λ f. free)
 move s (Unfinished n) = gives (then Idle)
-move s (Keys k0 k1 k2 k3) = gives (latched s k0 k1 k2 k3)
-move s (Switches v) = gives (switched s v)
+move s (Keys k0 k1 k2 k3) = gives (keysLatched s k0 k1 k2 k3)
+move s (Switches v) = gives (switchesLatched s v)
 move s ByteOut = look position byteOut

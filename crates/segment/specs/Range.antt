@@ -9,7 +9,7 @@ use borrow.Author.Tests.{ltb-true}
 use Rattle.rules.specs.Choice.{whether, bit, whether-all, of2-all, of4-all}
 use Rattle.rules.specs.Rule.{value, copy, free, Rule, gives}
 use Rattle.rules.specs.Change.{keep}
-use Rattle.rules.specs.Range.{Fits, Ranged, InRange, keep-fits, change-fits}
+use Rattle.rules.specs.Range.{Good, moves-good, FormIn, Ranged, InRange, keep-fits, change-fits}
 use Rattle.terms.specs.declared.Event.{Event}
 use Rattle.terms.specs.declared.Event.the-variants.{Power, Falls, ByteIn, Rises, Gap, Unfinished, Keys, Switches, ByteOut}
 use Rattle.terms.specs.Event.{Bytes}
@@ -29,8 +29,11 @@ use Rattle.segment.specs.Family.{sizes}
 use Rattle.segment.specs.Fact.{Fact, same?, range, cell, address, dataMode, stepping, mode, dimming, display, led, key, switches, readCount, position}
 use Rattle.segment.specs.Value.{pointer, data-mode, steps, shows, at-position}
 use Rattle.segment.specs.Command.{modeOf, settingOf, displayOf, pointerOf, commandOf}
-use Rattle.segment.specs.Move.{Forms, sets, then, toMode, commanded, after, stored, byteIn, counted, byteOut, latched, switched, move}
+use Rattle.segment.specs.Move.{Forms, sets, then, toMode, commanded, after, stored, byteIn, counted, byteOut, keysLatched, switchesLatched, move}
 use Rattle.segment.specs.Laws.{every}
+use Rattle.segment.specs.declared.chip.Segment.{Segment}
+use Rattle.segment.specs.declared.chip.Moved.{Moved}
+use Rattle.segment.specs.View.{view, covers, By}
 
 -- There is a cell, and the LED after power is a nibble.
 pub record Proper (s : Sizes) : Type 0 where
@@ -156,14 +159,14 @@ module _ (s : Sizes) (p : Proper s) where
       (λ d _. of4-all Fine _ _ _ _ kept kept (λ n _. count-fits n) (λ n _. count-fits n) d)
       kept q
 
-  latched-fits : (k0 k1 k2 k3 : ℕ) → k0 < 256 → k1 < 256 → k2 < 256 → k3 < 256 → InRange same? (range s) (latched s k0 k1 k2 k3)
+  latched-fits : (k0 k1 k2 k3 : ℕ) → k0 < 256 → k1 < 256 → k2 < 256 → k3 < 256 → InRange same? (range s) (keysLatched s k0 k1 k2 k3)
   latched-fits k0 k1 k2 k3 h0 h1 h2 h3 =
       sets-fit (key 0) k0 _ h0
       (sets-fit (key 1) k1 _ h1
       (sets-fit (key 2) k2 _ h2
-      (change-fits same? (range s) (key 3) _ _ (whether-all (Fits (range s) 256) (ltb 3 (s .keys)) (value k3) (copy (key 3)) (λ _. h3) (λ _. omega arith)) kept)))
+      (change-fits same? (range s) (key 3) _ _ (whether-all (FormIn (range s) 256) (ltb 3 (s .keys)) (value k3) (copy (key 3)) (λ _. h3) (λ _. omega arith)) kept)))
 
-  switched-fits : (v : ℕ) → InRange same? (range s) (switched s v)
+  switched-fits : (v : ℕ) → InRange same? (range s) (switchesLatched s v)
   switched-fits v =
       whether-all (InRange same? (range s)) (s .switched) _ _ (λ _. sets-fit switches (v % 16) _ (omega arith) kept) (λ _. kept)
 
@@ -179,3 +182,7 @@ module _ (s : Sizes) (p : Proper s) where
   ranged (Keys k0 k1 k2 k3) h = latched-fits k0 k1 k2 k3 (h .0) (h .1) (h .2) (h .3)
   ranged (Switches v) h = switched-fits v
   ranged ByteOut h = λ q _. out-fits q
+
+-- A move of a chip in range, under an event that carries bytes, gives a chip in range.
+pub stays-good : (q : Family) (e : Event) → Bytes e → (c : Segment) (m : Moved) → By (move (sizes q) e) c m → Good (range (sizes q)) (view c) → Good (range (sizes q)) (view (m .chip))
+stays-good q e h c m b g = moves-good (range (sizes q)) (move (sizes q) e) (view c) (view (m .chip)) (covers (m .any)) (ranged (sizes q) (proper q) e h) g b

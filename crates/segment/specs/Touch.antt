@@ -6,9 +6,9 @@ use mathlib.Core.Bool.{false}
 use mathlib.Core.Logic.{_≢_}
 use lib.Dec.{ltb, eqb}
 use Rattle.rules.specs.Choice.{whether-all, of2-all, of4-all}
-use Rattle.rules.specs.Rule.{Form, value, copy, Rule, look}
+use Rattle.rules.specs.Rule.{Form, value, copy, Rule, look, run}
 use Rattle.rules.specs.Change.{keep}
-use Rattle.rules.specs.Touch.{Leaves, Settles, isFree, change-leaves, AllSettle, keep-settles, change-settles}
+use Rattle.rules.specs.Touch.{Leaves, Settles, settles, isFree, isAnything, change-leaves, AllSettle, keep-settles, change-settles}
 use Rattle.terms.specs.declared.Event.{Event}
 use Rattle.terms.specs.declared.Event.the-variants.{Power, Falls, ByteIn, Rises, Gap, Unfinished, Keys, Switches, ByteOut}
 use Rattle.segment.specs.declared.chip.Sizes.{Sizes}
@@ -20,7 +20,7 @@ use Rattle.segment.specs.declared.command.Command.the-variants.{Mode, Te
 use Rattle.segment.specs.Fact.{Fact, same?, cell, address, dataMode, stepping, mode, dimming, display, led, key, switches, readCount, position}
 use Rattle.segment.specs.Value.{pointer, data-mode, steps, shows, at-position}
 use Rattle.segment.specs.Command.{commandOf}
-use Rattle.segment.specs.Move.{Forms, sets, then, toMode, commanded, after, storedAt, stored, written, byteIn, switched, move}
+use Rattle.segment.specs.Move.{Forms, sets, then, nothing, toMode, commanded, after, storedAt, stored, written, byteIn, switchesLatched, move}
 
 -- The strobe and unfinished bits leave every fact alone but the position.
 pub strobe-leaves : (s : Sizes) (n : ℕ) (f : Fact) → f ≢ position → Leaves f (move s Falls) × Leaves f (move s Rises) × Leaves f (move s (Unfinished n))
@@ -77,7 +77,7 @@ Defined (AnySetting i) = ⊥
 Defined (Control d o) = Unit
 Defined (Start a) = Unit
 
--- Power and a gap leave facts as anything, and a byte may where it is read as an undefined command.
+-- Power and a gap leave facts as anything, and so may a byte that would be an undefined command.
 abbrev pub Settled : Sizes → Event → Type 0
 Settled s Power = ⊥
 Settled s Falls = Unit
@@ -122,7 +122,7 @@ stored-settles s b (suc i) f =
     (sets-settle (cell i) b keep kept f) n)
     (λ _. refl)
 
--- Only those events leave a fact as anything.
+-- No other event leaves a fact as anything.
 pub settled : (s : Sizes) (e : Event) → Settled s e → SettlesAll (move s e)
 settled s Power h = absurd h
 settled s Falls h = sets-settle position _ keep kept
@@ -143,3 +143,21 @@ settled s ByteOut h =
     λ f q. of4-all (Settles f) _ _ _ _ refl refl
     (λ d. of4-all (Settles f) _ _ _ _ refl refl (λ n. sets-settle readCount _ keep kept f) (λ n. sets-settle readCount _ keep kept f) d)
     refl q
+
+-- A byte leaves a fact as anything only as a first byte that is an undefined command; data bytes never do.
+pub byte-settles : (s : Sizes) (b : ℕ) (c : Fact → ℕ) → (c position ≡ 1 → Defined (commandOf s b)) → (f : Fact) → isAnything (run (move s (ByteIn b)) c f) ≡ false
+byte-settles s b c h f = go (c position) refl
+  where
+    nothing-settles : isAnything (run nothing c f) ≡ false
+    nothing-settles = refl
+
+    open-settles : isAnything (run (look dataMode (written s b)) c f) ≡ false
+    open-settles =
+        settles f (look dataMode (written s b)) c
+        (λ d. of4-all (Settles f) _ _ _ _ (λ a. stored-settles s b a f) (sets-settle led (b % 16) keep kept f) refl refl d)
+
+    go : (q : ℕ) → c position ≡ q → isAnything (run (byteIn s b q) c f) ≡ false
+    go zero e = nothing-settles
+    go (suc zero) e = settles f (commanded (commandOf s b)) c (commanded-settles (commandOf s b) (h e) f)
+    go (suc (suc zero)) e = open-settles
+    go (suc (suc (suc n))) e = nothing-settles

@@ -28,7 +28,7 @@ use Rattle.segment.specs.Value.{pointer, data-mode, steps, shows, at-pos
 use Rattle.segment.specs.View.{view, covers, By}
 use Rattle.segment.specs.Sent.{Sends, sentNumber}
 
--- The lists are as long as the arrays of the type, as those of every chip are that code hands over.
+-- The lists are as long as the arrays of the type. This holds of every chip that code hands over.
 pub record Shaped (c : Segment) : Type 0 where
   pub cells : length (c .cells) ≡ 36
   pub keys : length (c .keys) ≡ 4

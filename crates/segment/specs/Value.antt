@@ -11,7 +11,7 @@ use Rattle.segment.specs.declared.chip.Display.the-variants.{Off, On}
 use Rattle.segment.specs.declared.chip.Position.{Position}
 use Rattle.segment.specs.declared.chip.Position.the-variants.{Idle, First, Open, Ignoring}
 
--- An address: 0 says invalid, and the number behind a cell's says that cell.
+-- An address: 0 means invalid, and a cell's number plus one means that cell.
 abbrev pub pointer : Pointer → ℕ
 pointer (At a) = suc (a .0)
 pointer Invalid = 0

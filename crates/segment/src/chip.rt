@@ -16,7 +16,7 @@ pub struct Sizes {
     pub addresses: u8,
     // Codes that a mode command can name: its low three bits, or four.
     pub codes: u8,
-    // The highest mode, for which all codes above it stand too, and the mode after power.
+    // The highest mode, which all codes above it mean too; also the mode after power.
     pub top: u8,
     // Key bytes.
     pub keys: u8,

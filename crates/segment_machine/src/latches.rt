@@ -12,10 +12,10 @@ ghost use lib.ListN.{length, set};
 ghost use Rattle.rules.specs.Rule.{gives};
 ghost use Rattle.segment.specs.Family.{sizes};
 ghost use Rattle.segment.specs.View.{By};
-ghost use Rattle.segment.specs.Move.{latched, switched};
+ghost use Rattle.segment.specs.Move.{keysLatched, switchesLatched};
 
 pub fn keys_latched(family: Family, chip: Segment, k0: u8, k1: u8, k2: u8, k3: u8) -> Moved
-    ensures { λ r. ⌜ By (gives (latched (sizes family) k0 k1 k2 k3)) chip r ⌝ }
+    ensures { λ r. ⌜ By (gives (keysLatched (sizes family) k0 k1 k2 k3)) chip r ⌝ }
 {
     let old = chip.keys;
     let rest = fourth_in(family, old, k3);
@@ -47,7 +47,7 @@ fn key_in(keys: [u8; 4], number: usize, byte: u8) -> [u8; 4]
 }
 
 pub fn switches_latched(family: Family, chip: Segment, value: u8) -> Moved
-    ensures { λ r. ⌜ By (gives (switched (sizes family) value)) chip r ⌝ }
+    ensures { λ r. ⌜ By (gives (switchesLatched (sizes family) value)) chip r ⌝ }
 {
     match family {
         Family::Pt6312 => Moved {

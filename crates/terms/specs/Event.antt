@@ -5,7 +5,7 @@ use mathlib.Core.List.{List, [], _∷_, _++_, map, append-assoc}
 use Rattle.terms.specs.declared.Event.{Event}
 use Rattle.terms.specs.declared.Event.the-variants.{Power, Falls, ByteIn, Rises, Gap, Unfinished, Keys, Switches, ByteOut}
 
--- The numbers that the event carries are bytes, as those of every event are that code hands over.
+-- The numbers that the event carries are bytes. This holds of every event that code hands over.
 abbrev pub Bytes : Event → Type 0
 Bytes Power = Unit
 Bytes Falls = Unit

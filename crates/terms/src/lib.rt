@@ -1,12 +1,12 @@
 // The words that everything else speaks: a place in a recording, an address in a chip, a recorded event, and the part that a
 // part byte names.
 ghost use mathlib.Core.Path.{_≡_};
-ghost use Rattle.terms.specs.Part.{partOf};
+ghost use Rattle.terms.specs.Part.{partOf, number, place, partNumber};
 
 // A place in a recording, counted from its first byte. Refusals carry one.
 pub struct Place(pub usize);
 
-// An address in a chip: the number of a cell. Moves take one.
+// An address in a chip: the number of a cell or of a character. Moves take one.
 pub struct Address(pub u8);
 
 // What a recorder notes.
@@ -46,7 +46,7 @@ pub enum PartRead {
 
 // The part that a part byte names.
 pub fn part_of(byte: u8) -> PartRead
-    ensures { λ r. ⌜ r ≡ partOf byte ⌝ }
+    ensures { λ r. ⌜ (r ≡ partOf byte) × ((number r ≡ partNumber byte) × (place r ≡ 0)) ⌝ }
 {
     match byte {
         0x02 => PartRead::Is(Part::Pt6302),

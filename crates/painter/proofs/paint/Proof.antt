@@ -1,5 +1,11 @@
 -- `painter::paint` meets its contract: each arm knows the part that the byte names, and its callee paints for that part.
 -- Assumes nothing.
+use Prim.Native.Nat.{ℕ}
+use lib.ListN.{length}
+use Rattle.painting.specs.declared.Picture.{Picture}
+use Rattle.painter.specs.declared.Painted.{Painted}
+use Rattle.painter.specs.Answer.{answer, number, place, numberFor, placeFor}
+use Rattle.painter.specs.Laws.{answer-number}
 use mathlib.Core.Path.{_≡_, _∙_, sym, ap, refl}
 use Rattle.terms.specs.declared.Part.the-variants.{Pt6302, Pt6312, Pt6315}
 use Rattle.terms.specs.declared.PartRead.the-variants.{Is}
@@ -7,6 +13,14 @@ use Rattle.terms.specs.Part.{partOf}
 use borrow.Author.Needs.{needs}
 use Rattle.painter.proofs.paint.Statement.{statement}
 use Rattle.painter.proofs.paint.Tie as tie
+
+-- The answer, and with it its number and place.
+numbered : (part : ℕ) (p : Picture) (room : ℕ) (r : Painted) (O : Type 0) → r ≡ answer part p room → O
+    → ((r ≡ answer part p room) × O) × ((number r ≡ numberFor (partOf part) p room) × (place r .0 ≡ placeFor (partOf part) p room))
+numbered part p room r O e o = (
+  (e, o),
+  (ap number e ∙ answer-number (partOf part) p room .0, ap (λ (x : Painted). place x .0) e ∙ answer-number (partOf part) p room .1),
+)
 
 part-of-requires : tie.Need-part-of-requires
 part-of-requires c κs = search needs
@@ -41,8 +55,8 @@ same-length c = search needs
 returns : tie.Need-returns
 returns c =
     let a = c .before .before .before .before .before .before .before .before .before .before .before .before .before .args in
-    let e : partOf (a .part) ≡ Is Pt6302 = sym (c .before .before .before .before .before .before .before .before .before .part-of .ensures) ∙ c .before .before .before .before .before .before .before .known .given .1 ∙ ap Is (c .before .before .before .before .enum-told .given .1) in
-    (rw e (c .before .before .paint .ensures .0), rw e (c .before .before .paint .ensures .1))
+    let e : partOf (a .part) ≡ Is Pt6302 = sym (c .before .before .before .before .before .before .before .before .before .part-of .ensures .0) ∙ c .before .before .before .before .before .before .before .known .given .1 ∙ ap Is (c .before .before .before .before .enum-told .given .1) in
+    numbered (a .part) (a .picture) (length (a .out .now)) _ _ (rw e (c .before .before .paint .ensures .0)) (rw e (c .before .before .paint .ensures .1))
 
 same-length-2 : tie.Need-same-length-2
 same-length-2 c = search needs
@@ -50,8 +64,8 @@ same-length-2 c = search needs
 returns-2 : tie.Need-returns-2
 returns-2 c =
     let a = c .before .before .before .before .before .before .before .before .before .before .before .before .before .args in
-    let e : partOf (a .part) ≡ Is Pt6312 = sym (c .before .before .before .before .before .before .before .before .before .part-of .ensures) ∙ c .before .before .before .before .before .before .before .known .given .1 ∙ ap Is (c .before .before .before .before .enum-told2 .given .1) in
-    (rw e (c .before .before .paint2 .ensures .0), rw e (c .before .before .paint2 .ensures .1))
+    let e : partOf (a .part) ≡ Is Pt6312 = sym (c .before .before .before .before .before .before .before .before .before .part-of .ensures .0) ∙ c .before .before .before .before .before .before .before .known .given .1 ∙ ap Is (c .before .before .before .before .enum-told2 .given .1) in
+    numbered (a .part) (a .picture) (length (a .out .now)) _ _ (rw e (c .before .before .paint2 .ensures .0)) (rw e (c .before .before .paint2 .ensures .1))
 
 same-length-3 : tie.Need-same-length-3
 same-length-3 c = search needs
@@ -59,14 +73,14 @@ same-length-3 c = search needs
 returns-3 : tie.Need-returns-3
 returns-3 c =
     let a = c .before .before .before .before .before .before .before .before .before .before .before .before .before .args in
-    let e : partOf (a .part) ≡ Is Pt6315 = sym (c .before .before .before .before .before .before .before .before .before .part-of .ensures) ∙ c .before .before .before .before .before .before .before .known .given .1 ∙ ap Is (c .before .before .before .before .enum-told3 .given .1) in
-    (rw e (c .before .before .paint3 .ensures .0), rw e (c .before .before .paint3 .ensures .1))
+    let e : partOf (a .part) ≡ Is Pt6315 = sym (c .before .before .before .before .before .before .before .before .before .part-of .ensures .0) ∙ c .before .before .before .before .before .before .before .known .given .1 ∙ ap Is (c .before .before .before .before .enum-told3 .given .1) in
+    numbered (a .part) (a .picture) (length (a .out .now)) _ _ (rw e (c .before .before .paint3 .ensures .0)) (rw e (c .before .before .paint3 .ensures .1))
 
 returns-4 : tie.Need-returns-4
 returns-4 c =
     let a = c .before .before .before .before .before .before .before .args in
-    let e = sym (c .before .before .before .part-of .ensures) ∙ c .before .place .given .1 in
-    (rw e refl, rw e refl)
+    let e = sym (c .before .before .before .part-of .ensures .0) ∙ c .before .place .given .1 in
+    numbered (a .part) (a .picture) (length (a .out .now)) _ _ (rw e refl) (rw e refl)
 
 pub paint-spec : {M : Type 1} → statement M
 paint-spec =

@@ -11,20 +11,20 @@ use borrow.Author.Needs.{needs}
 use Rattle.character_machine.proofs.bytes.to_draw.Statement.{statement}
 use Rattle.character_machine.proofs.bytes.to_draw.Tie as tie
 
-mul-t8 : tie.Need-mul-t8
-mul-t8 c = search needs
+mul-forty-with : tie.Need-mul-forty-with
+mul-forty-with c = search needs
 
-add-t9 : tie.Need-add-t9
-add-t9 c = search needs
+add-forty-with : tie.Need-add-forty-with
+add-forty-with c = search needs
 
 forty-with-requires : tie.Need-forty-with-requires
 forty-with-requires c κs = search needs
 
-add-t14 : tie.Need-add-t14
-add-t14 c = search needs
+add-t13 : tie.Need-add-t13
+add-t13 c = search needs
 
-add-t27 : tie.Need-add-t27
-add-t27 c = search needs
+add-t26 : tie.Need-add-t26
+add-t26 c = search needs
 
 returns : tie.Need-returns
 returns c =
@@ -46,4 +46,4 @@ returns-2 c =
 
 pub to-draw-spec : {M : Type 1} → statement M
 to-draw-spec =
-    tie.close (tie.spec mul-t8 add-t9 forty-with-requires add-t14 add-t27 returns returns-2)
+    tie.close (tie.spec mul-forty-with add-forty-with forty-with-requires add-t13 add-t26 returns returns-2)

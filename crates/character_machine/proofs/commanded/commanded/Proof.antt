@@ -57,8 +57,8 @@ at-requires-8 c κs = search needs
 enum-told-2 : tie.Need-enum-told-2
 enum-told-2 c = search needs
 
-at-random-requires : tie.Need-at-random-requires
-at-random-requires c κs = search needs
+left-open-requires : tie.Need-left-open-requires
+left-open-requires c κs = search needs
 
 returns : tie.Need-returns
 returns c = rw (c .before .before .before .before .before .before .before .command .given .1) (let h = c .at .ensures in every _ (λ i. h (dcram i)) (λ i. h (cgram i)) (λ i. h (adram i)) (h dcramAt) (h cgramAt) (h adramAt) (h column) (h port) (h duty) (h digits) (h lights) (h position))
@@ -85,7 +85,7 @@ returns-8 : tie.Need-returns-8
 returns-8 c = rw (c .before .enum-told .given .1) (c .at8 .ensures)
 
 returns-9 : tie.Need-returns-9
-returns-9 c = rw (c .before .enum-told2 .given .1) (c .at-random .ensures)
+returns-9 c = rw (c .before .enum-told2 .given .1) (c .left-open .ensures)
 
 pub commanded-spec : {M : Type 1} → statement M
 commanded-spec =
@@ -108,7 +108,7 @@ commanded-spec =
     enum-told
     at-requires-8
     enum-told-2
-    at-random-requires
+    left-open-requires
     returns
     returns-2
     returns-3

@@ -12,7 +12,7 @@ use lib.Seq.{sets, length-take-le}
 use borrow.Author.Tests.{not-true, not-false}
 use Rattle.terms.specs.Event.{recording}
 use Rattle.segment.specs.Family.{sizes}
-use Rattle.segment.specs.Laws.{fits}
+use Rattle.segment.specs.Laws.{room}
 use Rattle.painting.specs.Segment.{fiveStrobes, control}
 use Rattle.painter.specs.Answer.{segmentSize, segmentStream}
 use borrow.Author.Needs.{needs}
@@ -48,7 +48,7 @@ write-requires : tie.Need-write-requires
 write-requires c κs =
     let q = c .before .before .before .before .before .before .before .before .before .args .family in
     let r : c .before .before .before .sizes .result .cells ≡ sizes q .cells = ap (λ (z : Sizes). z .cells) (c .before .before .before .sizes .ensures) in
-    omega (arith, fits q .0, size-is q, c .before .before .before .before .before .size-of .ensures, c .before .before .before .before .if2 .left)
+    omega (arith, room q .0, size-is q, c .before .before .before .before .before .size-of .ensures, c .before .before .before .before .if2 .left)
 
 same-length : tie.Need-same-length
 same-length c = search needs
@@ -60,7 +60,7 @@ returns-3 c =
     let n = c .before .before .before .before .before .before .before .before .size-of .ensures in
     let w = c .before .before .write .ensures in
     let l : length (take (sizes (a .family) .cells) (p .cells)) ≡ sizes (a .family) .cells =
-    length-take-le (sizes (a .family) .cells) (p .cells) (omega (arith, w .1, fits (a .family) .0)) in
+    length-take-le (sizes (a .family) .cells) (p .cells) (omega (arith, w .1, room (a .family) .0)) in
     let z : length (segmentStream (a .family) p) ≡ segmentSize (a .family) =
     omega (arith, five-length (p .mode) (p .led) (control p) (take (sizes (a .family) .cells) (p .cells)), size-is (a .family)) in
     rw n

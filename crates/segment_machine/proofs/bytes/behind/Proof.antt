@@ -2,7 +2,7 @@
 -- Assumes nothing.
 use native.Mathlib.Omega.{arith}
 use borrow.Author.Tests.{lt-ltb, le-ltb}
-use Rattle.segment.specs.Laws.{fits}
+use Rattle.segment.specs.Laws.{room}
 use borrow.Author.Needs.{needs}
 use Rattle.segment_machine.proofs.bytes.behind.Statement.{statement}
 use Rattle.segment_machine.proofs.bytes.behind.Tie as tie
@@ -11,7 +11,7 @@ sizes-requires : tie.Need-sizes-requires
 sizes-requires c κs = search needs
 
 add-if1 : tie.Need-add-if1
-add-if1 c = omega (arith, c .before .before .pre, fits (c .before .before .args .family) .0)
+add-if1 c = omega (arith, c .before .before .pre, room (c .before .before .args .family) .0)
 
 add-t7 : tie.Need-add-t7
 add-t7 c = search needs

@@ -4,7 +4,7 @@ use native.Mathlib.Omega.{arith}
 use mathlib.Core.Path.{refl, ap}
 use Rattle.segment.specs.Laws.{every}
 use Rattle.rules.specs.Laws.{by-value}
-use Rattle.segment.specs.Laws.{fits}
+use Rattle.segment.specs.Laws.{room}
 use Rattle.segment.specs.Family.{sizes}
 use Prim.Native.Nat.{_<_}
 use Rattle.segment.specs.Value.{steps}
@@ -16,7 +16,7 @@ use Rattle.segment_machine.proofs.bytes.stored_at.Statement.{statement}
 use Rattle.segment_machine.proofs.bytes.stored_at.Tie as tie
 
 stored-in-requires : tie.Need-stored-in-requires
-stored-in-requires c κs = omega (arith, c .before .pre, fits (c .before .args .family) .0)
+stored-in-requires c κs = omega (arith, c .before .pre, room (c .before .args .family) .0)
 
 enum-told : tie.Need-enum-told
 enum-told c = search needs
@@ -31,7 +31,7 @@ returns : tie.Need-returns
 returns c =
     let a = c .before .before .before .before .before .before .args in
     let n = c .before .before .before .before .stored-in .ensures .1 in
-    let h : a .cell .0 < length (a .chip .cells) = omega (arith, c .before .before .before .before .before .before .pre, fits (a .family) .0) in
+    let h : a .cell .0 < length (a .chip .cells) = omega (arith, c .before .before .before .before .before .before .pre, room (a .family) .0) in
     by-value (storedAt (sizes (a .family)) (a .byte) (a .cell .0)) _ _ _ _ _ (ap steps (c .before .before .enum-told .given .1))
     (rw (c .before .behind .ensures)
     (every _ (λ i. cell-stored (a .chip) _ (a .cell .0) (a .byte) i (c .before .before .before .before .stored-in .ensures .0) h) refl refl refl refl refl refl refl (λ i. refl) refl refl refl))
@@ -40,7 +40,7 @@ returns-2 : tie.Need-returns-2
 returns-2 c =
     let a = c .before .before .before .before .before .args in
     let n = c .before .before .before .stored-in .ensures .1 in
-    let h : a .cell .0 < length (a .chip .cells) = omega (arith, c .before .before .before .before .before .pre, fits (a .family) .0) in
+    let h : a .cell .0 < length (a .chip .cells) = omega (arith, c .before .before .before .before .before .pre, room (a .family) .0) in
     by-value (storedAt (sizes (a .family)) (a .byte) (a .cell .0)) _ _ _ _ _ (ap steps (c .before .enum-told2 .given .1))
     (every _ (λ i. cell-stored (a .chip) _ (a .cell .0) (a .byte) i (c .before .before .before .stored-in .ensures .0) h) refl refl refl refl refl refl refl (λ i. refl) refl refl refl)
 

@@ -6,7 +6,7 @@ use Rattle.rules.specs.Rule.{becomes}
 use Rattle.segment.specs.Family.{sizes}
 use native.Mathlib.Omega.{arith}
 use borrow.Author.Tests.{lt-ltb, le-ltb}
-use Rattle.segment.specs.Laws.{fits}
+use Rattle.segment.specs.Laws.{room}
 use borrow.Author.Needs.{needs}
 use Rattle.segment_machine.proofs.sent.key_sent.Statement.{statement}
 use Rattle.segment_machine.proofs.sent.key_sent.Tie as tie
@@ -18,7 +18,7 @@ key-at-requires : tie.Need-key-at-requires
 key-at-requires c κs =
     let a = c .before .before .before .before .before .args in
     let t : a .chip .count < sizes (a .family) .keys = rw (c .before .before .before .before .sizes .ensures) at (c .if1 .taken) in
-    omega (arith, t, fits (a .family) .1)
+    omega (arith, t, room (a .family) .1)
 
 returns : tie.Need-returns
 returns c =
