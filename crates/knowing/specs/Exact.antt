@@ -1,13 +1,13 @@
 -- What `know` says is exact. The argument, by induction on the rule. At a form, the fitting chip that has 0 wherever nothing is known, and the
 -- one that has 1 there, show that "unknown" is deserved. At a look at a known fact, every fitting chip goes the one way. At a look at an
 -- unknown fact, the fitting chips are those that fit the knowledge with one of its values learnt, for each value.
-use Prim.Native.Nat.{ℕ, suc, _<_, _≤_}
+use Prim.Native.Nat.{ℕ, _<_, _≤_}
 use native.Mathlib.Omega.{arith}
 use mathlib.Core.Path.{_≡_, refl, sym, ap, _∙_, subst, subst⁻¹}
-use Rattle.rules.specs.Rule.{Form, value, copy, free, Rule, gives, look, Outcome, becomes, outcome, run}
+use Rattle.rules.specs.Rule.{Form, value, copy, free, Rule, gives, look, outcome, run}
 use Rattle.rules.specs.Range.{Good}
 use Rattle.rules.specs.Turn.{Allows}
-use Rattle.knowing.specs.Standing.{Standing, known, unknown, Agrees, Fits, Within, Sound, Agree, Exact}
+use Rattle.knowing.specs.Standing.{Standing, known, unknown, Agrees, Fits, Within, Sound, Exact}
 use Rattle.knowing.specs.Know.{lifted, learn, common, know}
 use Rattle.knowing.specs.Join.{not-known, known-one, common-all, common-each}
 use Rattle.knowing.specs.Fill.{fill, filled, filled-fits, filled-good}

@@ -1,6 +1,6 @@
 -- Chips that fit a knowledge: wherever it does not know, any value will do.
 use Prim.Native.Nat.{ℕ, _<_}
-use mathlib.Core.Path.{_≡_, refl}
+use mathlib.Core.Path.{refl}
 use Rattle.rules.specs.Range.{Good}
 use Rattle.knowing.specs.Standing.{Standing, known, unknown, Agrees, Fits, Within, Sound}
 

@@ -1,5 +1,5 @@
 -- The laws of what several ways have in common: it is known to be v exactly where every way is.
-use Prim.Native.Nat.{ℕ, zero, suc, _<_, _≤_}
+use Prim.Native.Nat.{ℕ, zero, suc, _<_}
 use native.Mathlib.Omega.{arith}
 use mathlib.Core.Path.{_≡_, refl, sym, _∙_, ap}
 use mathlib.Core.Bool.{Bool, true, false}
@@ -88,3 +88,65 @@ common-apart n s i j v w li lj d p q =
     same-standing (common n s) unknown
     (λ u e. absurd (d (known-one v w (sym p ∙ common-each n s u e i li ∙ sym (common-each n s u e j lj) ∙ q))))
     (λ u e. absurd (not-known u e))
+
+-- What is unknown one way is unknown.
+pub join-not : (s t : Standing) → s ≡ unknown → unknown ≡ join s t
+unfolding join
+join-not (known v) t e = absurd (not-known v (sym e))
+join-not unknown (known w) e = refl
+join-not unknown unknown e = refl
+
+pub join-nor : (s t : Standing) → t ≡ unknown → unknown ≡ join s t
+unfolding join
+join-nor (known v) (known w) e = absurd (not-known w (sym e))
+join-nor unknown (known w) e = absurd (not-known w (sym e))
+join-nor (known v) unknown e = refl
+join-nor unknown unknown e = refl
+
+-- What is different two ways is unknown.
+pub join-other : (s t : Standing) (v w : ℕ) → s ≡ known v → t ≡ known w → ¬ (v ≡ w) → unknown ≡ join s t
+join-other s t v w p q d =
+    sym (same-standing (join s t) unknown
+    (λ u e.
+    let h = join-known s t u e in
+    absurd (d (known-one v u (sym p ∙ h .0) ∙ sym (known-one w u (sym q ∙ h .1)))))
+    (λ u e. absurd (not-known u e)))
+
+-- What the ways have in common goes by each way alone.
+pub common-ways : (n : ℕ) (s t : ℕ → Standing) → ((w : ℕ) → s w ≡ t w) → common n s ≡ common n t
+unfolding common
+common-ways zero s t h = refl
+common-ways (suc zero) s t h = h zero
+common-ways (suc (suc n)) s t h = rw (common-ways (suc n) s t h, h (suc n)) refl
+
+-- One way is unknown.
+pub common-not : (n : ℕ) (s : ℕ → Standing) (i : ℕ) → i < n → s i ≡ unknown → common n s ≡ unknown
+common-not n s i l p =
+    same-standing (common n s) unknown
+    (λ v e. absurd (not-known v (sym p ∙ common-each n s v e i l)))
+    (λ v e. absurd (not-known v e))
+
+-- Two, three and four ways.
+module _ (s : ℕ → Standing) (r a b : Standing) where
+  pub two-ways : r ≡ join a b → a ≡ s 0 → b ≡ s 1 → r ≡ common 2 s
+  unfolding common
+  two-ways e p q = e ∙ rw (p, q) refl
+
+  pub three-ways : (c : Standing) → r ≡ join (join a b) c → a ≡ s 0 → b ≡ s 1 → c ≡ s 2 → r ≡ common 3 s
+  unfolding common
+  three-ways c e p q t = e ∙ rw (p, q, t) refl
+
+  pub four-ways : (c d : Standing) → r ≡ join (join (join a b) c) d → a ≡ s 0 → b ≡ s 1 → c ≡ s 2 → d ≡ s 3 → r ≡ common 4 s
+  unfolding common
+  four-ways c d e p q t u = e ∙ rw (p, q, t, u) refl
+
+-- The order of two ways does not matter.
+pub join-swap : (s t : Standing) → join s t ≡ join t s
+join-swap s t =
+    same-standing (join s t) (join t s)
+    (λ v e.
+    let h = join-known s t v e in
+    join-both t s v (h .1) (h .0))
+    (λ v e.
+    let h = join-known t s v e in
+    join-both s t v (h .1) (h .0))

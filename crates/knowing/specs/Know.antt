@@ -1,6 +1,5 @@
 -- What a rule makes of a knowledge: where it looks at a fact that is unknown, it goes every way, and keeps what all the ways have in common.
 use Prim.Native.Nat.{ℕ, zero, suc}
-use mathlib.Core.Path.{_≡_}
 use mathlib.Core.Bool.{Bool, true, false}
 use lib.Dec.{eqb}
 use Rattle.rules.specs.Rule.{Form, value, copy, free, Rule, gives, look}

@@ -1,12 +1,12 @@
 -- The same over whole chips, in demand 3's own words: after one event, a fact is known exactly when all chips that fit the earlier knowledge,
 -- moved as the rules allow, agree on it, and has their value.
-use Prim.Native.Nat.{ℕ, _<_, _≤_}
+use Prim.Native.Nat.{ℕ, _≤_}
 use native.Mathlib.Omega.{arith}
-use mathlib.Core.Path.{_≡_, refl, sym, ap, _∙_, subst⁻¹}
+use mathlib.Core.Path.{_≡_, refl, sym, _∙_, subst⁻¹}
 use Rattle.rules.specs.Rule.{Rule, Outcome, becomes, anything, run}
 use Rattle.rules.specs.Range.{Good}
 use Rattle.rules.specs.Turn.{Allows, Result, put, put-same}
-use Rattle.knowing.specs.Standing.{Standing, known, unknown, Agrees, Fits, Sound, Agree}
+use Rattle.knowing.specs.Standing.{Standing, known, Fits, Sound}
 use Rattle.knowing.specs.Know.{know}
 use Rattle.knowing.specs.Exact.{know-exact, know-fits}
 

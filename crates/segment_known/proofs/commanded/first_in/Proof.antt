@@ -1,0 +1,137 @@
+-- `segment_known::commanded::first_in` meets its contract: each arm knows the command.
+-- Assumes nothing.
+use Rattle.segment.specs.Family.{sizes}
+use Rattle.segment.specs.Move.{nothing, commanded}
+use mathlib.Core.Path.{sym, ap, _∙_}
+use Rattle.segment.specs.Laws.{every}
+use Rattle.segment.specs.Fact.{cell, address, dataMode, stepping, mode, dimming, display, led, key, switches, readCount, position}
+use Rattle.knowing.specs.Standing.{known}
+use Rattle.segment_known.specs.Ways.{as-rule, mode-small}
+use borrow.Author.Needs.{needs}
+use Rattle.segment_known.proofs.commanded.first_in.Statement.{statement}
+use Rattle.segment_known.proofs.commanded.first_in.Tie as tie
+
+command-of-requires : tie.Need-command-of-requires
+command-of-requires c κs = search needs
+
+enum-known-command : tie.Need-enum-known-command
+enum-known-command c = search needs
+
+to-mode-requires : tie.Need-to-mode-requires
+to-mode-requires c κs = let a = c .before .before .before .before .args in
+    let s = sizes (a .family) in
+    mode-small s (a .byte) _ (sym (c .before .command .given .1) ∙ c .before .before .before .command-of .ensures)
+
+enum-told : tie.Need-enum-told
+enum-told c = search needs
+
+in-test-requires : tie.Need-in-test-requires
+in-test-requires c κs = search needs
+
+enum-known-command-2 : tie.Need-enum-known-command-2
+enum-known-command-2 c = search needs
+
+data-number-requires : tie.Need-data-number-requires
+data-number-requires c κs = search needs
+
+step-number-requires : tie.Need-step-number-requires
+step-number-requires c κs = search needs
+
+at-requires : tie.Need-at-requires
+at-requires c κs = search needs
+
+enum-known-command-3 : tie.Need-enum-known-command-3
+enum-known-command-3 c = search needs
+
+step-number-requires-2 : tie.Need-step-number-requires-2
+step-number-requires-2 c κs = search needs
+
+at-requires-2 : tie.Need-at-requires-2
+at-requires-2 c κs = search needs
+
+enum-known-command-4 : tie.Need-enum-known-command-4
+enum-known-command-4 c = search needs
+
+display-number-requires : tie.Need-display-number-requires
+display-number-requires c κs = search needs
+
+at-requires-3 : tie.Need-at-requires-3
+at-requires-3 c κs = search needs
+
+enum-known-command-5 : tie.Need-enum-known-command-5
+enum-known-command-5 c = search needs
+
+known-pointing-requires : tie.Need-known-pointing-requires
+known-pointing-requires c κs = search needs
+
+at-requires-4 : tie.Need-at-requires-4
+at-requires-4 c κs = search needs
+
+returns : tie.Need-returns
+returns c = let a = c .before .before .before .before .before .args in
+    let s = sizes (a .family) in
+    as-rule s _ _ (a .k) _ (ap commanded (sym (c .before .before .before .before .command-of .ensures) ∙ c .before .before .command .given .1))
+    (c .to-mode .ensures)
+
+returns-2 : tie.Need-returns-2
+returns-2 c = let a = c .before .before .before .before .args in
+    let s = sizes (a .family) in
+    as-rule s _ _ (a .k) _ (ap commanded (sym (c .before .before .before .command-of .ensures) ∙ c .before .enum-told .given .1))
+    (c .in-test .ensures)
+
+returns-3 : tie.Need-returns-3
+returns-3 c = let a = c .before .before .before .before .before .before .before .before .before .args in
+    let s = sizes (a .family) in
+    let e = c .at .ensures in
+    as-rule s _ _ (a .k) _ (ap commanded (sym (c .before .before .before .before .before .before .before .before .command-of .ensures) ∙ c .before .before .before .before .before .before .command2 .given .1))
+    (every _ (λ i. e (cell i)) (e address) (e dataMode ∙ ap known (c .before .before .before .before .data-number .ensures)) (e stepping ∙ ap known (c .before .before .before .step-number .ensures)) (e mode) (e dimming) (e display) (e led) (λ i. e (key i)) (e switches) (e readCount) (e position))
+
+returns-4 : tie.Need-returns-4
+returns-4 c = let a = c .before .before .before .before .before .before .before .before .args in
+    let s = sizes (a .family) in
+    let e = c .at2 .ensures in
+    as-rule s _ _ (a .k) _ (ap commanded (sym (c .before .before .before .before .before .before .before .command-of .ensures) ∙ c .before .before .before .before .before .command3 .given .1))
+    (every _ (λ i. e (cell i)) (e address) (e dataMode) (e stepping ∙ ap known (c .before .before .before .step-number2 .ensures)) (e mode) (e dimming) (e display) (e led) (λ i. e (key i)) (e switches) (e readCount) (e position))
+
+returns-5 : tie.Need-returns-5
+returns-5 c = let a = c .before .before .before .before .before .before .before .before .args in
+    let s = sizes (a .family) in
+    let e = c .at3 .ensures in
+    as-rule s _ _ (a .k) _ (ap commanded (sym (c .before .before .before .before .before .before .before .command-of .ensures) ∙ c .before .before .before .before .before .command4 .given .1))
+    (every _ (λ i. e (cell i)) (e address) (e dataMode) (e stepping) (e mode) (e dimming) (e display ∙ ap known (c .before .before .before .display-number .ensures)) (e led) (λ i. e (key i)) (e switches) (e readCount) (e position))
+
+returns-6 : tie.Need-returns-6
+returns-6 c = let a = c .before .before .before .before .before .before .before .before .args in
+    let s = sizes (a .family) in
+    let e = c .at4 .ensures in
+    as-rule s _ _ (a .k) _ (ap commanded (sym (c .before .before .before .before .before .before .before .command-of .ensures) ∙ c .before .before .before .before .before .command5 .given .1))
+    (every _ (λ i. e (cell i)) (e address ∙ c .before .before .before .known-pointing .ensures) (e dataMode) (e stepping) (e mode) (e dimming) (e display) (e led) (λ i. e (key i)) (e switches) (e readCount) (e position))
+
+pub first-in-spec : {M : Type 1} → statement M
+first-in-spec =
+    tie.close
+    (tie.spec
+    command-of-requires
+    enum-known-command
+    to-mode-requires
+    enum-told
+    in-test-requires
+    enum-known-command-2
+    data-number-requires
+    step-number-requires
+    at-requires
+    enum-known-command-3
+    step-number-requires-2
+    at-requires-2
+    enum-known-command-4
+    display-number-requires
+    at-requires-3
+    enum-known-command-5
+    known-pointing-requires
+    at-requires-4
+    returns
+    returns-2
+    returns-3
+    returns-4
+    returns-5
+    returns-6)

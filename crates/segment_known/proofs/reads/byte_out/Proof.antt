@@ -1,0 +1,74 @@
+-- `segment_known::reads::byte_out` meets its contract: a known position goes its one way, an unknown one all four.
+-- Assumes nothing.
+use Rattle.segment.specs.Family.{sizes}
+use Rattle.segment.specs.Move.{nothing, readOut, byteOut}
+use Rattle.segment.specs.Fact.{dataMode, position}
+use Rattle.rules.specs.Rule.{look}
+use mathlib.Core.Path.{refl, ap}
+use Rattle.segment_known.specs.View.{stands}
+use Rattle.segment_known.specs.Ways.{way, known-way, four-known}
+use borrow.Author.Needs.{needs}
+use Rattle.segment_known.proofs.reads.byte_out.Statement.{statement}
+use Rattle.segment_known.proofs.reads.byte_out.Tie as tie
+
+enum-known-position : tie.Need-enum-known-position
+enum-known-position c = search needs
+
+out-at-requires : tie.Need-out-at-requires
+out-at-requires c κs = search needs
+
+enum-told : tie.Need-enum-told
+enum-told c = search needs
+
+at-requires : tie.Need-at-requires
+at-requires c κs = search needs
+
+at-requires-2 : tie.Need-at-requires-2
+at-requires-2 c κs = search needs
+
+both-requires : tie.Need-both-requires
+both-requires c κs = search needs
+
+at-requires-3 : tie.Need-at-requires-3
+at-requires-3 c κs = search needs
+
+open-out-requires : tie.Need-open-out-requires
+open-out-requires c κs = search needs
+
+both-requires-2 : tie.Need-both-requires-2
+both-requires-2 c κs = search needs
+
+at-requires-4 : tie.Need-at-requires-4
+at-requires-4 c κs = search needs
+
+both-requires-3 : tie.Need-both-requires-3
+both-requires-3 c κs = search needs
+
+returns : tie.Need-returns
+returns c = let a = c .before .before .before .before .args in
+    let s = sizes (a .family) in
+    known-way s position (byteOut) (a .k) _ _ (ap stands (c .before .before .position .given .1)) (c .out-at .ensures)
+
+returns-2 : tie.Need-returns-2
+returns-2 c = let a = c .before .before .before .before .before .before .before .before .before .before .args in
+    let s = sizes (a .family) in
+    four-known s position byteOut (a .k) _ _ _ _ _ _ _ refl (ap stands (c .before .before .before .before .before .before .before .before .enum-told .given .1)) (c .both3 .ensures) (c .before .before .both2 .ensures) (c .before .before .before .before .before .both .ensures) (c .before .before .before .before .before .before .before .at .ensures) (c .before .before .before .before .before .before .at2 .ensures)
+    (way s (look dataMode readOut) _ _ _ _ _ (c .before .before .before .before .at3 .ensures) (c .before .before .before .open-out .ensures)) (c .before .at4 .ensures)
+
+pub byte-out-spec : {M : Type 1} → statement M
+byte-out-spec =
+    tie.close
+    (tie.spec
+    enum-known-position
+    out-at-requires
+    enum-told
+    at-requires
+    at-requires-2
+    both-requires
+    at-requires-3
+    open-out-requires
+    both-requires-2
+    at-requires-4
+    both-requires-3
+    returns
+    returns-2)

@@ -1,0 +1,172 @@
+-- A byte stored at an unknown address. Every cell of the part may be the one, and so may none: a cell has in common with the byte what it had,
+-- the address stays unknown, and nothing else changes, whether the stepping is known or not.
+use Prim.Native.Nat.{ℕ, zero, suc, _<_, _≤_}
+use native.Mathlib.Omega.{arith}
+use mathlib.Core.Path.{_≡_, refl, sym, ap, _∙_, subst, subst⁻¹}
+use mathlib.Core.Bool.{Bool}
+use borrow.Author.Tests.{lt-ltb}
+use Rattle.rules.specs.Choice.{whether}
+use Rattle.rules.specs.Rule.{Form, value, look}
+use Rattle.rules.specs.Change.{keep}
+use Rattle.knowing.specs.Standing.{Standing, known, unknown}
+use Rattle.knowing.specs.Know.{lifted, learn, join, common, know}
+use Rattle.knowing.specs.Join.{not-known, known-one, same-standing, join-swap, common-each, common-same, common-two, common-apart}
+use Rattle.knowing.specs.Look.{look-known, look-unknown}
+use Rattle.segment.specs.declared.chip.Sizes.{Sizes}
+use Rattle.segment.specs.declared.chip.Pointer.the-variants.{At, Invalid}
+use Rattle.segment.specs.Value.{pointer}
+use Rattle.segment.specs.Fact.{Fact, same?, range, cell, address, dataMode, stepping, mode, dimming, display, led, key, switches, readCount, position}
+use Rattle.segment.specs.Move.{sets, after, storedAt, stored}
+
+-- A fact that is not the one set.
+other-set : (l : Fact → Standing) (g : Fact) (v : ℕ) (φ : Fact → Form Fact) (f : Fact) → ¬ (f ≡ g) → lifted l (sets g v φ f) ≡ lifted l (φ f)
+other-set l g v φ f n = go (same? f g)
+  where
+    go : (d : Dec (f ≡ g)) → lifted l (elim d [ yes _ ↦ value v | no _ ↦ φ f ]) ≡ lifted l (φ f)
+    go (yes p) = absurd (n p)
+    go (no _) = refl
+
+set-same : (l : Fact → Standing) (g : Fact) (v : ℕ) (φ : Fact → Form Fact) → lifted l (sets g v φ g) ≡ known v
+set-same l g v φ = go (same? g g)
+  where
+    go : (d : Dec (g ≡ g)) → lifted l (elim d [ yes _ ↦ value v | no _ ↦ φ g ]) ≡ known v
+    go (yes _) = refl
+    go (no n) = absurd (n refl)
+
+other-learn : (l : Fact → Standing) (g : Fact) (v : ℕ) (f : Fact) → ¬ (f ≡ g) → learn same? g v l f ≡ l f
+other-learn l g v f n = go (same? f g)
+  where
+    go : (d : Dec (f ≡ g)) → _≡_ {A = Standing} (elim d [ yes _ ↦ known v | no _ ↦ l f ]) (l f)
+    go (yes p) = absurd (n p)
+    go (no _) = refl
+
+-- Facts of different names are different.
+unfoldable pub tag : Fact → ℕ
+tag (cell i) = 0
+tag address = 1
+tag dataMode = 2
+tag stepping = 2
+tag mode = 2
+tag dimming = 2
+tag display = 2
+tag led = 2
+tag (key i) = 2
+tag switches = 2
+tag readCount = 2
+tag position = 2
+
+not-address : (j : ℕ) → cell j ≡ address → ⊥
+unfolding tag
+not-address j e =
+    let z : _≡_ {A = ℕ} 0 1 = ap tag e in
+    omega arith
+
+apart : (i j : ℕ) → cell i ≡ cell j → i ≡ j
+apart i j e = cc
+
+module _ (s : Sizes) (b i : ℕ) where
+  -- A fact other than the address and the cell.
+  stays : (l : Fact → Standing) (f : Fact) → ¬ (f ≡ address) → ¬ (f ≡ cell i) → (v : ℕ) → know same? (range s) (storedAt s b i v) l f ≡ l f
+  stays l f n m zero = other-set l address (pointer (after s i)) (sets (cell i) b keep) f n ∙ other-set l (cell i) b keep f m
+  stays l f n m (suc v) = other-set l (cell i) b keep f m
+
+  pub rests : (l : Fact → Standing) (f : Fact) → ¬ (f ≡ address) → ¬ (f ≡ cell i) → know same? (range s) (look stepping (storedAt s b i)) l f ≡ l f
+  rests l f n m = go (l stepping) refl
+    where
+      each : Dec (f ≡ stepping) → l stepping ≡ unknown → common 2 (λ (w : ℕ). know same? (range s) (storedAt s b i w) (learn same? stepping w l) f) ≡ l f
+      each (yes p) u =
+          subst⁻¹ (λ (x : Fact). common 2 (λ (w : ℕ). know same? (range s) (storedAt s b i w) (learn same? stepping w l) x) ≡ l x) p
+          (common-apart 2 _ 0 1 0 1 (omega arith) (omega arith) (λ e. omega arith) refl refl ∙ sym u)
+      each (no p) u = common-same 2 _ (l f) (omega arith) (λ w h. stays (learn same? stepping w l) f n m w ∙ other-learn l stepping w f p)
+
+      go : (t : Standing) → l stepping ≡ t → know same? (range s) (look stepping (storedAt s b i)) l f ≡ l f
+      go (known v) e = sym (look-known same? (range s) stepping (storedAt s b i) l f v _ e refl) ∙ stays l f n m v
+      go unknown e = sym (look-unknown same? (range s) stepping (storedAt s b i) l f _ e refl) ∙ each (same? f stepping) e
+
+  takes : (l : Fact → Standing) (v : ℕ) → know same? (range s) (storedAt s b i v) l (cell i) ≡ known b
+  takes l zero = set-same l (cell i) b keep
+  takes l (suc v) = set-same l (cell i) b keep
+
+  -- The cell itself.
+  pub holds : (l : Fact → Standing) → know same? (range s) (look stepping (storedAt s b i)) l (cell i) ≡ known b
+  holds l = go (l stepping) refl
+    where
+      go : (t : Standing) → l stepping ≡ t → know same? (range s) (look stepping (storedAt s b i)) l (cell i) ≡ known b
+      go (known v) e = sym (look-known same? (range s) stepping (storedAt s b i) l (cell i) v _ e refl) ∙ takes l v
+      go unknown e =
+          sym (look-unknown same? (range s) stepping (storedAt s b i) l (cell i) _ e refl)
+          ∙ common-same 2 _ (known b) (omega arith) (λ w h. takes (learn same? stepping w l) w)
+
+-- From cell 0 the address does not become invalid.
+module _ (s : Sizes) (b : ℕ) (room : 1 < s .cells) where
+  behind-first : (l : Fact → Standing) → l address ≡ known 1 → (v : ℕ) → know same? (range s) (storedAt s b 0 v) l address ≡ known 0 → ⊥
+  behind-first l e zero h =
+      let z : _≡_ {A = ℕ} 2 0 = known-one 2 0 (subst (λ (t : Bool). known (pointer (whether t (At (record { 0 = 1 })) Invalid)) ≡ known 0) (lt-ltb 1 (s .cells) room) h) in
+      omega arith
+  behind-first l e (suc v) h =
+      let z : _≡_ {A = ℕ} 1 0 = known-one 1 0 (sym e ∙ h) in
+      omega arith
+
+  pub leaves : (l : Fact → Standing) → l address ≡ known 1 → know same? (range s) (look stepping (storedAt s b 0)) l address ≡ known 0 → ⊥
+  leaves l e = go (l stepping) refl
+    where
+      go : (t : Standing) → l stepping ≡ t → know same? (range s) (look stepping (storedAt s b 0)) l address ≡ known 0 → ⊥
+      go (known v) u h = behind-first l e v (look-known same? (range s) stepping (storedAt s b 0) l address v _ u refl ∙ h)
+      go unknown u h =
+          behind-first (learn same? stepping 0 l) e 0
+          (common-each 2 _ 0 (look-unknown same? (range s) stepping (storedAt s b 0) l address _ u refl ∙ h) 0 (omega arith))
+
+-- All ways of a look at an unknown address.
+module _ (s : Sizes) (b : ℕ) (k : Fact → Standing) where
+  abbrev pub ways : Fact → ℕ → Standing
+  ways f w = know same? (range s) (stored s b w) (learn same? address w k) f
+
+  -- The way that stores at cell i.
+  at-cell : (f : Fact) (i : ℕ) (x : Standing) → i < s .cells → know same? (range s) (look stepping (storedAt s b i)) (learn same? address (suc i) k) f ≡ x → ways f (suc i) ≡ x
+  at-cell f i x h e = rw (lt-ltb i (s .cells) h) e
+
+  pub rest-stay : (f : Fact) → ¬ (f ≡ address) → ((i : ℕ) → i < s .cells → ¬ (f ≡ cell i)) → k f ≡ common (suc (s .cells)) (ways f)
+  rest-stay f n m = sym (common-same (suc (s .cells)) (ways f) (k f) (omega arith) each)
+    where
+      each : (w : ℕ) → w < suc (s .cells) → ways f w ≡ k f
+      each zero h = other-learn k address 0 f n
+      each (suc i) h = at-cell f i (k f) (omega arith) (rests s b i (learn same? address (suc i) k) f n (m i (omega arith)) ∙ other-learn k address (suc i) f n)
+
+  -- Any fact but the cells and the address.
+  pub plain-stay : (f : Fact) → 2 ≤ tag f → k f ≡ common (suc (s .cells)) (ways f)
+  unfolding tag
+  plain-stay f h =
+      rest-stay f
+      (λ e.
+      let z : tag f ≡ 1 = ap tag e in
+      omega arith)
+      (λ i l e.
+      let z : tag f ≡ 0 = ap tag e in
+      omega arith)
+
+  -- A cell past the part's last.
+  pub beyond-stay : (j : ℕ) → s .cells ≤ j → k (cell j) ≡ common (suc (s .cells)) (ways (cell j))
+  beyond-stay j h =
+      rest-stay (cell j) (not-address j)
+      (λ i l e.
+      let z = apart j i e in
+      omega arith)
+
+  pub cell-common : (j : ℕ) → j < s .cells → join (k (cell j)) (known b) ≡ common (suc (s .cells)) (ways (cell j))
+  cell-common j l =
+      join-swap (k (cell j)) (known b)
+      ∙ sym (common-two (suc (s .cells)) (ways (cell j)) (known b) (k (cell j)) (suc j) 0 (omega arith) (omega arith) (λ e. omega arith)
+      (at-cell (cell j) j (known b) l (holds s b j (learn same? address (suc j) k))) each)
+    where
+      each : (w : ℕ) → w < suc (s .cells) → ¬ (w ≡ suc j) → ways (cell j) w ≡ k (cell j)
+      each zero h d = refl
+      each (suc i) h d = at-cell (cell j) i (k (cell j)) (omega arith) (rests s b i (learn same? address (suc i) k) (cell j) (λ e. absurd (not-address j e)) (λ e. d (ap suc (sym (apart j i e)))))
+
+  pub address-lost : 1 < s .cells → unknown ≡ common (suc (s .cells)) (ways address)
+  address-lost room =
+      sym (same-standing (common (suc (s .cells)) (ways address)) unknown
+      (λ v e.
+      let z : known 0 ≡ known v = common-each (suc (s .cells)) (ways address) v e 0 (omega arith) in
+      let o : ways address 1 ≡ known 0 = common-each (suc (s .cells)) (ways address) v e 1 (omega arith) ∙ sym z in
+      absurd (leaves s b room (learn same? address 1 k) refl (sym (at-cell address 0 _ (omega arith) refl) ∙ o)))
+      (λ v e. absurd (not-known v e)))

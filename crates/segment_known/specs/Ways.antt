@@ -1,0 +1,187 @@
+-- How the ways of a look come together: a look at a known fact is its one way, and one at an unknown fact is what all ways have in common.
+use Prim.Native.Nat.{ℕ, zero, suc, _/_, _%_, _<_, _≤_}
+use native.Mathlib.Omega.{arith}
+use native.Mathlib.Decide.{ℕ-discrete}
+use mathlib.Core.Path.{_≡_, refl, sym, ap, _∙_, subst⁻¹}
+use mathlib.Core.Bool.{Bool, true, false}
+use borrow.Author.Tests.{eq-eqb, ne-eqb}
+use Rattle.rules.specs.Choice.{whether, bit, of2, of4, of4-all}
+use Rattle.rules.specs.Rule.{value, Rule, gives, look}
+use Rattle.rules.specs.Change.{keep}
+use Rattle.knowing.specs.Standing as Of
+use Rattle.knowing.specs.Know.{lifted, learn, join, common, know}
+use Rattle.knowing.specs.Join.{two-ways, three-ways, four-ways, common-same, common-two, common-apart}
+use Rattle.knowing.specs.Look.{look-known, look-unknown, know-same}
+use Rattle.segment.specs.declared.chip.Sizes.{Sizes}
+use Rattle.segment.specs.declared.chip.Position.the-variants.{Ignoring}
+use Rattle.segment.specs.declared.chip.Display.the-variants.{Off}
+use Rattle.segment.specs.declared.command.Command.{Command}
+use Rattle.segment.specs.declared.command.Command.the-variants.{Mode, Test, Setting, AnySetting, Control, Start}
+use Rattle.segment.specs.Command.{commandOf, modeOf, settingOf, steppingOf, displayOf, pointerOf}
+use Rattle.segment.specs.declared.chip.Data.the-variants.{WriteDisplay, WriteLed, ReadKeys, ReadSwitches}
+use Rattle.segment.specs.Value.{shows}
+use Rattle.segment.specs.Family.{sizes}
+use Rattle.segment.specs.declared.chip.Family.{Family}
+use Rattle.segment.specs.declared.chip.Family.the-variants.{Pt6312, Pt6315}
+use Rattle.segment.specs.Fact.{Fact, same?, range, cell, address, dataMode, stepping, mode, dimming, display, led, key, switches, readCount, position}
+use Rattle.segment.specs.Laws.{every}
+use Rattle.segment.specs.Move.{sets, then, nothing, toMode, counted}
+use Rattle.segment_known.specs.declared.knowledge.Knowledge.{Knowledge}
+use Rattle.segment_known.specs.View.{kview, Knows, Becomes}
+
+-- One way of a look: what the rule makes of the knowledge with the value learnt.
+abbrev pub Way : Sizes → Rule Fact Fact → Knowledge → Fact → ℕ → Knowledge → Type 0
+Way s rule k g v r = (f : Fact) → kview r f ≡ know same? (range s) rule (learn same? g v (kview k)) f
+
+pub way : (s : Sizes) (rule : Rule Fact Fact) (k l r : Knowledge) (g : Fact) (v : ℕ) → ((f : Fact) → kview l f ≡ learn same? g v (kview k) f) → Knows s rule l r → Way s rule k g v r
+way s rule k l r g v e h f = h f ∙ know-same same? (range s) rule (kview l) (learn same? g v (kview k)) e f
+
+module _ (s : Sizes) (g : Fact) (κ : ℕ → Rule Fact Fact) (k r : Knowledge) where
+  abbrev ways : Fact → ℕ → Of.Standing
+  ways f w = know same? (range s) (κ w) (learn same? g w (kview k)) f
+
+  pub known-way : (v : ℕ) → kview k g ≡ Of.known v → Knows s (κ v) k r → Knows s (look g κ) k r
+  known-way v e h f = look-known same? (range s) g κ (kview k) f v (kview r f) e (h f)
+
+  pub two-known : (a b : Knowledge) → range s g ≡ 2 → kview k g ≡ Of.unknown → ((f : Fact) → kview r f ≡ join (kview a f) (kview b f))
+      → Way s (κ 0) k g 0 a → Way s (κ 1) k g 1 b → Knows s (look g κ) k r
+  two-known a b n u e p q f =
+      look-unknown same? (range s) g κ (kview k) f (kview r f) u (subst⁻¹ (λ (m : ℕ). kview r f ≡ common m (ways f)) n (two-ways (ways f) (kview r f) (kview a f) (kview b f) (e f) (p f) (q f)))
+
+  pub three-known : (a b c x : Knowledge) → range s g ≡ 3 → kview k g ≡ Of.unknown → ((f : Fact) → kview r f ≡ join (kview x f) (kview c f)) → ((f : Fact) → kview x f ≡ join (kview a f) (kview b f))
+      → Way s (κ 0) k g 0 a → Way s (κ 1) k g 1 b → Way s (κ 2) k g 2 c → Knows s (look g κ) k r
+  three-known a b c x n u e d p q t f =
+      look-unknown same? (range s) g κ (kview k) f (kview r f) u
+      (subst⁻¹ (λ (m : ℕ). kview r f ≡ common m (ways f)) n
+      (three-ways (ways f) (kview r f) (kview a f) (kview b f) (kview c f) (e f ∙ ap (λ (y : Of.Standing). join y (kview c f)) (d f)) (p f) (q f) (t f)))
+
+  pub four-known : (a b c d x y : Knowledge) → range s g ≡ 4 → kview k g ≡ Of.unknown
+      → ((f : Fact) → kview r f ≡ join (kview y f) (kview d f)) → ((f : Fact) → kview y f ≡ join (kview x f) (kview c f)) → ((f : Fact) → kview x f ≡ join (kview a f) (kview b f))
+      → Way s (κ 0) k g 0 a → Way s (κ 1) k g 1 b → Way s (κ 2) k g 2 c → Way s (κ 3) k g 3 d → Knows s (look g κ) k r
+  four-known a b c d x y n u e1 e2 e3 p q t v f =
+      look-unknown same? (range s) g κ (kview k) f (kview r f) u
+      (subst⁻¹ (λ (m : ℕ). kview r f ≡ common m (ways f)) n
+      (four-ways (ways f) (kview r f) (kview a f) (kview b f) (kview c f) (kview d f)
+      (e1 f ∙ ap (λ (z : Of.Standing). join z (kview d f)) (e2 f ∙ ap (λ (z : Of.Standing). join z (kview c f)) (e3 f))) (p f) (q f) (t f) (v f)))
+
+-- A rule that is another, in name, makes the same of a knowledge.
+pub as-rule : (s : Sizes) (a b : Rule Fact Fact) (k r : Knowledge) → a ≡ b → Knows s b k r → Knows s a k r
+as-rule s a b k r e h f = subst⁻¹ (λ (x : Rule Fact Fact). kview r f ≡ know same? (range s) x (kview k) f) e (h f)
+
+-- What a fact learns is what a rule that only sets it makes of it.
+pub learnt : (k r : Knowledge) (g : Fact) (v : ℕ) → ((f : Fact) → kview r f ≡ learn same? g v (kview k) f) → Becomes (sets g v keep) k r
+learnt k r g v e f = e f ∙ go (same? f g)
+  where
+    go : (d : Dec (f ≡ g)) → _≡_ {A = Of.Standing} (elim d [ yes e ↦ Of.known v | no n ↦ kview k f ]) (lifted (kview k) (elim d [ yes _ ↦ value v | no _ ↦ keep f ]))
+    go (yes _) = refl
+    go (no _) = refl
+
+-- The choices that no number of the code's match names.
+pub other-in : (a b : Rule Fact Fact) (n : ℕ) → ¬ (n ≡ 1) → ¬ (n ≡ 2) → of4 nothing a b nothing n ≡ nothing
+other-in a b zero p q = refl
+other-in a b (suc zero) p q = absurd (p refl)
+other-in a b (suc (suc zero)) p q = absurd (q refl)
+other-in a b (suc (suc (suc n))) p q = refl
+
+pub other-out : (a : Rule Fact Fact) (n : ℕ) → ¬ (n ≡ 2) → of4 nothing nothing a nothing n ≡ nothing
+other-out a zero q = refl
+other-out a (suc zero) q = refl
+other-out a (suc (suc zero)) q = absurd (q refl)
+other-out a (suc (suc (suc n))) q = refl
+
+pub other-written : (a b : Rule Fact Fact) (n : ℕ) → ¬ (n ≡ 0) → ¬ (n ≡ 1) → of4 a b nothing nothing n ≡ nothing
+other-written a b zero p q = absurd (p refl)
+other-written a b (suc zero) p q = absurd (q refl)
+other-written a b (suc (suc zero)) p q = refl
+other-written a b (suc (suc (suc n))) p q = refl
+
+pub low-read : (a : Rule Fact Fact) (n : ℕ) → n < 2 → of4 nothing nothing a a n ≡ nothing
+low-read a zero p = refl
+low-read a (suc zero) p = refl
+low-read a (suc (suc n)) p = absurd (omega arith)
+
+pub high-read : (a : Rule Fact Fact) (n : ℕ) → 2 ≤ n → of4 nothing nothing a a n ≡ a
+high-read a zero p = absurd (omega arith)
+high-read a (suc zero) p = absurd (omega arith)
+high-read a (suc (suc zero)) p = refl
+high-read a (suc (suc (suc n))) p = refl
+
+pub other-step : (a b : Rule Fact Fact) (n : ℕ) → ¬ (n ≡ 0) → of2 a b n ≡ b
+other-step a b zero p = absurd (p refl)
+other-step a b (suc n) p = refl
+
+-- An unknown read count stays unknown, and nothing else changes.
+pub count-unknown : (s : Sizes) (k : Knowledge) → kview k readCount ≡ Of.unknown → Knows s (look readCount counted) k k
+count-unknown s k u f =
+    look-unknown same? (range s) readCount counted (kview k) f (kview k f) u
+    (every (λ (f : Fact). kview k f ≡ common 5 (λ (w : ℕ). know same? (range s) (counted w) (learn same? readCount w (kview k)) f))
+    (λ i. same (cell i) (λ w. refl)) (same address (λ w. refl)) (same dataMode (λ w. refl)) (same stepping (λ w. refl)) (same mode (λ w. refl)) (same dimming (λ w. refl)) (same display (λ w. refl)) (same led (λ w. refl))
+    (λ i. same (key i) (λ w. refl)) (same switches (λ w. refl))
+    (u ∙ sym (common-apart 5 _ 0 1 1 2 (omega arith) (omega arith) (λ e. omega arith) refl refl))
+    (same position (λ w. refl)) f)
+  where
+    same : (f : Fact) → ((w : ℕ) → know same? (range s) (counted w) (learn same? readCount w (kview k)) f ≡ kview k f)
+        → kview k f ≡ common 5 (λ (w : ℕ). know same? (range s) (counted w) (learn same? readCount w (kview k)) f)
+    same f h = sym (common-same 5 _ (kview k f) (omega arith) (λ w l. h w))
+
+-- The mode that a command names, if it is a mode command.
+abbrev codeOf : Command → ℕ
+codeOf (Mode m) = m
+codeOf Test = 0
+codeOf (Setting d i) = 0
+codeOf (AnySetting i) = 0
+codeOf (Control d o) = 0
+codeOf (Start a) = 0
+
+small : (s : Sizes) (b : ℕ) → codeOf (commandOf s b) ≤ s .top
+small s b =
+    of4-all (λ (c : Command). codeOf c ≤ s .top) (Mode (modeOf s b)) (settingOf s b) (Control (b % 8) (displayOf b)) (Start (pointerOf s b)) (omega arith)
+    (set (bit 3 b) (s .switched) (b % 4)) (omega arith) (omega arith) (b / 64)
+  where
+    last : (t : Bool) → codeOf (whether t (Setting ReadSwitches (steppingOf b)) (AnySetting (steppingOf b))) ≤ s .top
+    last true = omega arith
+    last false = omega arith
+
+    set : (t u : Bool) (n : ℕ) → codeOf (whether t Test (of4 (Setting WriteDisplay (steppingOf b)) (Setting WriteLed (steppingOf b)) (Setting ReadKeys (steppingOf b))
+        (whether u (Setting ReadSwitches (steppingOf b)) (AnySetting (steppingOf b))) n)) ≤ s .top
+    set true u n = omega arith
+    set false u zero = omega arith
+    set false u (suc zero) = omega arith
+    set false u (suc (suc zero)) = omega arith
+    set false u (suc (suc (suc n))) = last u
+
+pub mode-small : (s : Sizes) (b m : ℕ) → Mode m ≡ commandOf s b → m ≤ s .top
+mode-small s b m e = subst⁻¹ (λ (c : Command). codeOf c ≤ s .top) e (small s b)
+
+-- An unknown mode: it may be the one that the byte names, and then only the position changes, or another, and then the display goes off too.
+pub mode-unknown : (s : Sizes) (k r a b : Knowledge) (m : ℕ) → m ≤ s .top → 1 ≤ s .top → kview k mode ≡ Of.unknown → ((f : Fact) → kview r f ≡ join (kview a f) (kview b f))
+    → Way s (gives (then Ignoring)) k mode m a → Becomes (sets mode m (sets display (shows Off) (then Ignoring))) k b → Knows s (look mode (toMode m)) k r
+mode-unknown s k r a b m small room u e p q f =
+    look-unknown same? (range s) mode (toMode m) (kview k) f (kview r f) u
+    (e f ∙ sym (by (ℕ-discrete m 0)))
+  where
+    here : know same? (range s) (toMode m m) (learn same? mode m (kview k)) f ≡ kview a f
+    here = rw (eq-eqb m m refl) (sym (p f))
+
+    there : (w : ℕ) → ¬ (w ≡ m) → know same? (range s) (toMode m w) (learn same? mode w (kview k)) f ≡ kview b f
+    there w d =
+        rw (ne-eqb w m d)
+        (every (λ (f : Fact). lifted (learn same? mode w (kview k)) (sets mode m (sets display (shows Off) (then Ignoring)) f) ≡ kview b f)
+        (λ i. sym (q (cell i))) (sym (q address)) (sym (q dataMode)) (sym (q stepping)) (sym (q mode)) (sym (q dimming)) (sym (q display)) (sym (q led)) (λ i. sym (q (key i))) (sym (q switches))
+        (sym (q readCount)) (sym (q position)) f)
+
+    by : Dec (m ≡ 0) → common (suc (s .top)) (λ (w : ℕ). know same? (range s) (toMode m w) (learn same? mode w (kview k)) f) ≡ join (kview a f) (kview b f)
+    by (yes z) = common-two (suc (s .top)) _ (kview a f) (kview b f) m 1 (omega arith) (omega arith) (λ o. omega arith) here (λ w l d. there w d)
+    by (no z) = common-two (suc (s .top)) _ (kview a f) (kview b f) m 0 (omega arith) (omega arith) (λ o. z (sym o)) here (λ w l d. there w d)
+
+-- Every part has more than one mode.
+pub top-room : (p : Family) → 1 ≤ sizes p .top
+unfolding sizes
+top-room Pt6312 = omega arith
+top-room Pt6315 = omega arith
+
+-- Every part has more than one cell.
+pub cells-room : (p : Family) → 1 < sizes p .cells
+unfolding sizes
+cells-room Pt6312 = omega arith
+cells-room Pt6315 = omega arith

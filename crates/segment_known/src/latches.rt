@@ -1,0 +1,54 @@
+// What latched keys and switches make of a knowledge.
+use crate::knowledge::Knowledge;
+use crate::knowledge::Standing;
+use segment::Family;
+ghost use mathlib.Core.Path.{_≡_};
+ghost use Prim.Native.Nat.{_<_};
+ghost use lib.Dec.{ltb};
+ghost use lib.ListN.{length, set};
+ghost use Rattle.rules.specs.Choice.{whether};
+ghost use Rattle.rules.specs.Rule.{gives};
+ghost use Rattle.segment.specs.Family.{sizes};
+ghost use Rattle.segment.specs.Move.{keysLatched, switchesLatched};
+ghost use Rattle.segment_known.specs.View.{Knows};
+
+pub fn keys_latched(family: Family, k: Knowledge, k0: u8, k1: u8, k2: u8, k3: u8) -> Knowledge
+    ensures { λ r. ⌜ Knows (sizes family) (gives (keysLatched (sizes family) k0 k1 k2 k3)) k r ⌝ }
+{
+    let old = k.keys;
+    let rest = fourth_in(family, old, k3);
+    let keys = key_in(key_in(key_in(rest, 2, k2), 1, k1), 0, k0);
+    Knowledge { keys, ..k }
+}
+
+// The fourth key byte is stored where the part has one.
+fn fourth_in(family: Family, keys: [u16; 4], byte: u8) -> [u16; 4]
+    ensures { λ r. ⌜ (r ≡ whether (ltb 3 (sizes family .keys)) (set keys 3 byte) keys) × (length keys ≡ 4) ⌝ }
+{
+    match family {
+        Family::Pt6312 => keys,
+        Family::Pt6315 => key_in(keys, 3, byte),
+    }
+}
+
+// The key bytes with one of them known.
+fn key_in(keys: [u16; 4], number: usize, byte: u8) -> [u16; 4]
+    requires { ⌜ number < 4 ⌝ }
+    ensures { λ r. ⌜ (r ≡ set keys number byte) × (length keys ≡ 4) ⌝ }
+{
+    let mut new = keys;
+    new[number] = byte as u16;
+    new
+}
+
+pub fn switches_latched(family: Family, k: Knowledge, value: u8) -> Knowledge
+    ensures { λ r. ⌜ Knows (sizes family) (gives (switchesLatched (sizes family) value)) k r ⌝ }
+{
+    match family {
+        Family::Pt6312 => Knowledge {
+            switches: Standing::Known(value % 16),
+            ..k
+        },
+        Family::Pt6315 => k,
+    }
+}

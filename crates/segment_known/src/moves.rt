@@ -1,0 +1,54 @@
+// What each event makes of a knowledge.
+use crate::bytes::byte_in;
+use crate::knowledge::Knowledge;
+use crate::knowledge::Pointing;
+use crate::knowledge::Standing;
+use crate::knowledge::at;
+use crate::knowledge::nothing_known;
+use crate::latches::keys_latched;
+use crate::latches::switches_latched;
+use crate::reads::byte_out;
+use segment::Family;
+use terms::Address;
+use terms::Event;
+ghost use Rattle.rules.specs.Rule.{gives};
+ghost use Rattle.segment.specs.Family.{sizes};
+ghost use Rattle.segment.specs.Move.{powered, move};
+ghost use Rattle.segment_known.specs.View.{Knows};
+
+// The knowledge after an event.
+pub fn moved(family: Family, k: Knowledge, event: Event) -> Knowledge
+    ensures { λ r. ⌜ Knows (sizes family) (move (sizes family) event) k r ⌝ }
+{
+    match event {
+        Event::Power => at_power(family, k),
+        Event::Falls => at(k, 1),
+        Event::ByteIn(byte) => byte_in(family, k, byte),
+        Event::Rises => at(k, 0),
+        Event::Gap => nothing_known(),
+        Event::Unfinished(_) => at(k, 0),
+        Event::Keys(k0, k1, k2, k3) => keys_latched(family, k, k0, k1, k2, k3),
+        Event::Switches(value) => switches_latched(family, k, value),
+        Event::ByteOut => byte_out(family, k),
+    }
+}
+
+fn at_power(family: Family, k: Knowledge) -> Knowledge
+    ensures { λ r. ⌜ Knows (sizes family) (gives (powered (sizes family))) k r ⌝ }
+{
+    let sizes = family.sizes();
+    Knowledge {
+        cells: [256; 36],
+        address: Pointing::At(Address(0)),
+        data: Standing::Known(0),
+        stepping: Standing::Known(0),
+        mode: Standing::Known(sizes.top),
+        dimming: Standing::Known(0),
+        display: Standing::Known(0),
+        led: Standing::Known(sizes.led),
+        keys: [256; 4],
+        switches: Standing::Unknown,
+        count: Standing::Known(0),
+        position: Standing::Known(0),
+    }
+}

@@ -1,0 +1,70 @@
+// What a byte clocked out makes of a knowledge.
+use crate::join::both;
+use crate::knowledge::Knowledge;
+use crate::knowledge::Standing;
+use crate::knowledge::at;
+use crate::knowledge::with_data;
+use segment::Family;
+ghost use mathlib.Core.Path.{_≡_};
+ghost use Rattle.rules.specs.Rule.{look};
+ghost use Rattle.segment.specs.Family.{sizes};
+ghost use Rattle.segment.specs.Fact.{dataMode, readCount, position};
+ghost use Rattle.segment.specs.Move.{counted, readOut, byteOut};
+ghost use Rattle.segment_known.specs.View.{Knows};
+
+pub fn byte_out(family: Family, k: Knowledge) -> Knowledge
+    ensures { λ r. ⌜ Knows (sizes family) (look position byteOut) k r ⌝ }
+{
+    let position = k.position;
+    match position {
+        Standing::Known(place) => out_at(family, k, place),
+        Standing::Unknown => {
+            let shut = both(at(k, 0), at(k, 1));
+            let open = open_out(family, at(k, 2));
+            both(both(shut, open), at(k, 3))
+        }
+    }
+}
+
+fn out_at(family: Family, k: Knowledge, place: u8) -> Knowledge
+    ensures { λ r. ⌜ Knows (sizes family) (byteOut place) k r ⌝ }
+{
+    match place {
+        2 => open_out(family, k),
+        _ => k,
+    }
+}
+
+fn open_out(family: Family, k: Knowledge) -> Knowledge
+    ensures { λ r. ⌜ Knows (sizes family) (look dataMode readOut) k r ⌝ }
+{
+    let data = k.data;
+    match data {
+        Standing::Known(mode) => { if mode < 2 { k } else { counted_up(family, k) } }
+        Standing::Unknown => {
+            let writing = both(with_data(k, 0), with_data(k, 1));
+            let keys = both(writing, counted_up(family, with_data(k, 2)));
+            match family {
+                Family::Pt6312 => both(keys, counted_up(family, with_data(k, 3))),
+                Family::Pt6315 => keys,
+            }
+        }
+    }
+}
+
+// An unknown count stays unknown: it may be any of several.
+fn counted_up(family: Family, k: Knowledge) -> Knowledge
+    ensures { λ r. ⌜ Knows (sizes family) (look readCount counted) k r ⌝ }
+{
+    let count = k.count;
+    match count {
+        Standing::Known(n) => {
+            let more = if n < 4 { n + 1 } else { 4 };
+            Knowledge {
+                count: Standing::Known(more),
+                ..k
+            }
+        }
+        Standing::Unknown => k,
+    }
+}
