@@ -1,1 +1,2 @@
 pub mod Painting
+pub mod Knowing
