@@ -8,6 +8,16 @@ use crate::knowledge::Standing;
 use crate::knowledge::at;
 use crate::knowledge::stepping_by;
 use crate::knowledge::with_data;
+use crate::numbers::FIRST;
+use crate::numbers::FIXED;
+use crate::numbers::IDLE;
+use crate::numbers::IGNORING;
+use crate::numbers::INCREMENT;
+use crate::numbers::OPEN;
+use crate::numbers::READ_KEYS;
+use crate::numbers::READ_SWITCHES;
+use crate::numbers::WRITE_DISPLAY;
+use crate::numbers::WRITE_LED;
 use segment::Family;
 use terms::Address;
 ghost use mathlib.Core.Path.{_≡_};
@@ -29,9 +39,9 @@ pub fn byte_in(family: Family, k: Knowledge, byte: u8) -> Knowledge
     match position {
         Standing::Known(place) => in_at(family, k, byte, place),
         Standing::Unknown => {
-            let first = first_in(family, at(k, 1), byte);
-            let open = open_in(family, at(k, 2), byte);
-            both(both(both(at(k, 0), first), open), at(k, 3))
+            let first = first_in(family, at(k, FIRST), byte);
+            let open = open_in(family, at(k, OPEN), byte);
+            both(both(both(at(k, IDLE), first), open), at(k, IGNORING))
         }
     }
 }
@@ -40,8 +50,8 @@ fn in_at(family: Family, k: Knowledge, byte: u8, place: u8) -> Knowledge
     ensures { λ r. ⌜ Knows (sizes family) (byteIn (sizes family) byte place) k r ⌝ }
 {
     match place {
-        1 => first_in(family, k, byte),
-        2 => open_in(family, k, byte),
+        FIRST => first_in(family, k, byte),
+        OPEN => open_in(family, k, byte),
         _ => k,
     }
 }
@@ -53,11 +63,11 @@ fn open_in(family: Family, k: Knowledge, byte: u8) -> Knowledge
     match data {
         Standing::Known(mode) => written_in(family, k, byte, mode),
         Standing::Unknown => {
-            let display = stored_by(family, with_data(k, 0), byte);
-            let led = led_in(with_data(k, 1), byte);
-            let three = both(both(display, led), with_data(k, 2));
+            let display = stored_by(family, with_data(k, WRITE_DISPLAY), byte);
+            let led = led_in(with_data(k, WRITE_LED), byte);
+            let three = both(both(display, led), with_data(k, READ_KEYS));
             match family {
-                Family::Pt6312 => both(three, with_data(k, 3)),
+                Family::Pt6312 => both(three, with_data(k, READ_SWITCHES)),
                 Family::Pt6315 => three,
             }
         }
@@ -68,8 +78,8 @@ fn written_in(family: Family, k: Knowledge, byte: u8, mode: u8) -> Knowledge
     ensures { λ r. ⌜ Knows (sizes family) (written (sizes family) byte mode) k r ⌝ }
 {
     match mode {
-        0 => stored_by(family, k, byte),
-        1 => led_in(k, byte),
+        WRITE_DISPLAY => stored_by(family, k, byte),
+        WRITE_LED => led_in(k, byte),
         _ => k,
     }
 }
@@ -110,8 +120,8 @@ fn stored_at(family: Family, k: Knowledge, byte: u8, cell: Address) -> Knowledge
     match stepping {
         Standing::Known(step) => stored_so(family, k, byte, cell, step),
         Standing::Unknown => {
-            let increment = stored_so(family, stepping_by(k, 0), byte, cell, 0);
-            let fixed = stored_so(family, stepping_by(k, 1), byte, cell, 1);
+            let increment = stored_so(family, stepping_by(k, INCREMENT), byte, cell, INCREMENT);
+            let fixed = stored_so(family, stepping_by(k, FIXED), byte, cell, FIXED);
             both(increment, fixed)
         }
     }
@@ -124,7 +134,7 @@ fn stored_so(family: Family, k: Knowledge, byte: u8, cell: Address, step: u8) ->
     let old = k.cells;
     let cells = cell_in(old, cell, byte);
     match step {
-        0 => {
+        INCREMENT => {
             let address = behind(family, cell);
             Knowledge {
                 cells,

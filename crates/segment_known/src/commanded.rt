@@ -4,6 +4,16 @@ use crate::knowledge::Knowledge;
 use crate::knowledge::Pointing;
 use crate::knowledge::Standing;
 use crate::knowledge::at;
+use crate::numbers::FIXED;
+use crate::numbers::IGNORING;
+use crate::numbers::INCREMENT;
+use crate::numbers::OFF;
+use crate::numbers::ON;
+use crate::numbers::OPEN;
+use crate::numbers::READ_KEYS;
+use crate::numbers::READ_SWITCHES;
+use crate::numbers::WRITE_DISPLAY;
+use crate::numbers::WRITE_LED;
 use segment::Command;
 use segment::Data;
 use segment::Display;
@@ -36,7 +46,7 @@ pub fn first_in(family: Family, k: Knowledge, byte: u8) -> Knowledge
                 count: Standing::Known(0),
                 ..k
             },
-            2,
+            OPEN,
         ),
         Command::AnySetting(stepping) => at(
             Knowledge {
@@ -45,7 +55,7 @@ pub fn first_in(family: Family, k: Knowledge, byte: u8) -> Knowledge
                 count: Standing::Known(0),
                 ..k
             },
-            2,
+            OPEN,
         ),
         Command::Control(dimming, display) => at(
             Knowledge {
@@ -53,14 +63,14 @@ pub fn first_in(family: Family, k: Knowledge, byte: u8) -> Knowledge
                 display: Standing::Known(display_number(display)),
                 ..k
             },
-            3,
+            IGNORING,
         ),
         Command::Start(address) => at(
             Knowledge {
                 address: known_pointing(address),
                 ..k
             },
-            2,
+            OPEN,
         ),
     }
 }
@@ -69,10 +79,10 @@ fn data_number(data: Data) -> u8
     ensures { λ r. ⌜ r ≡ data-mode «data» ⌝ }
 {
     match data {
-        Data::WriteDisplay => 0,
-        Data::WriteLed => 1,
-        Data::ReadKeys => 2,
-        Data::ReadSwitches => 3,
+        Data::WriteDisplay => WRITE_DISPLAY,
+        Data::WriteLed => WRITE_LED,
+        Data::ReadKeys => READ_KEYS,
+        Data::ReadSwitches => READ_SWITCHES,
     }
 }
 
@@ -80,8 +90,8 @@ fn step_number(stepping: Stepping) -> u8
     ensures { λ r. ⌜ r ≡ steps stepping ⌝ }
 {
     match stepping {
-        Stepping::Increment => 0,
-        Stepping::Fixed => 1,
+        Stepping::Increment => INCREMENT,
+        Stepping::Fixed => FIXED,
     }
 }
 
@@ -89,8 +99,8 @@ fn display_number(display: Display) -> u8
     ensures { λ r. ⌜ r ≡ shows display ⌝ }
 {
     match display {
-        Display::Off => 0,
-        Display::On => 1,
+        Display::Off => OFF,
+        Display::On => ON,
     }
 }
 
@@ -111,21 +121,21 @@ fn to_mode(family: Family, k: Knowledge, code: u8) -> Knowledge
     let new = at(
         Knowledge {
             mode: Standing::Known(code),
-            display: Standing::Known(0),
+            display: Standing::Known(OFF),
             ..k
         },
-        3,
+        IGNORING,
     );
     let old = k.mode;
     match old {
-        Standing::Known(mode) => { if mode == code { at(k, 3) } else { new } }
+        Standing::Known(mode) => { if mode == code { at(k, IGNORING) } else { new } }
         Standing::Unknown => {
             let kept = at(
                 Knowledge {
                     mode: Standing::Known(code),
                     ..k
                 },
-                3,
+                IGNORING,
             );
             both(kept, new)
         }
@@ -145,7 +155,7 @@ fn in_test(family: Family, k: Knowledge) -> Knowledge
         display: Standing::Unknown,
         led: Standing::Unknown,
         count: Standing::Unknown,
-        position: Standing::Known(3),
+        position: Standing::Known(IGNORING),
         ..k
     }
 }

@@ -5,6 +5,7 @@ mod join;
 mod knowledge;
 mod latches;
 mod moves;
+mod numbers;
 mod reads;
 
 pub use knowledge::Knowledge;

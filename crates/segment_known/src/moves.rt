@@ -7,6 +7,11 @@ use crate::knowledge::at;
 use crate::knowledge::nothing_known;
 use crate::latches::keys_latched;
 use crate::latches::switches_latched;
+use crate::numbers::FIRST;
+use crate::numbers::IDLE;
+use crate::numbers::INCREMENT;
+use crate::numbers::OFF;
+use crate::numbers::WRITE_DISPLAY;
 use crate::reads::byte_out;
 use segment::Family;
 use terms::Address;
@@ -22,11 +27,11 @@ pub fn moved(family: Family, k: Knowledge, event: Event) -> Knowledge
 {
     match event {
         Event::Power => at_power(family, k),
-        Event::Falls => at(k, 1),
+        Event::Falls => at(k, FIRST),
         Event::ByteIn(byte) => byte_in(family, k, byte),
-        Event::Rises => at(k, 0),
+        Event::Rises => at(k, IDLE),
         Event::Gap => nothing_known(),
-        Event::Unfinished(_) => at(k, 0),
+        Event::Unfinished(_) => at(k, IDLE),
         Event::Keys(k0, k1, k2, k3) => keys_latched(family, k, k0, k1, k2, k3),
         Event::Switches(value) => switches_latched(family, k, value),
         Event::ByteOut => byte_out(family, k),
@@ -40,15 +45,15 @@ fn at_power(family: Family, k: Knowledge) -> Knowledge
     Knowledge {
         cells: [256; 36],
         address: Pointing::At(Address(0)),
-        data: Standing::Known(0),
-        stepping: Standing::Known(0),
+        data: Standing::Known(WRITE_DISPLAY),
+        stepping: Standing::Known(INCREMENT),
         mode: Standing::Known(sizes.top),
         dimming: Standing::Known(0),
-        display: Standing::Known(0),
+        display: Standing::Known(OFF),
         led: Standing::Known(sizes.led),
         keys: [256; 4],
         switches: Standing::Unknown,
         count: Standing::Known(0),
-        position: Standing::Known(0),
+        position: Standing::Known(IDLE),
     }
 }

@@ -4,6 +4,14 @@ use crate::knowledge::Knowledge;
 use crate::knowledge::Standing;
 use crate::knowledge::at;
 use crate::knowledge::with_data;
+use crate::numbers::FIRST;
+use crate::numbers::IDLE;
+use crate::numbers::IGNORING;
+use crate::numbers::OPEN;
+use crate::numbers::READ_KEYS;
+use crate::numbers::READ_SWITCHES;
+use crate::numbers::WRITE_DISPLAY;
+use crate::numbers::WRITE_LED;
 use segment::Family;
 ghost use mathlib.Core.Path.{_≡_};
 ghost use Rattle.rules.specs.Rule.{look};
@@ -19,9 +27,9 @@ pub fn byte_out(family: Family, k: Knowledge) -> Knowledge
     match position {
         Standing::Known(place) => out_at(family, k, place),
         Standing::Unknown => {
-            let shut = both(at(k, 0), at(k, 1));
-            let open = open_out(family, at(k, 2));
-            both(both(shut, open), at(k, 3))
+            let shut = both(at(k, IDLE), at(k, FIRST));
+            let open = open_out(family, at(k, OPEN));
+            both(both(shut, open), at(k, IGNORING))
         }
     }
 }
@@ -30,7 +38,7 @@ fn out_at(family: Family, k: Knowledge, place: u8) -> Knowledge
     ensures { λ r. ⌜ Knows (sizes family) (byteOut place) k r ⌝ }
 {
     match place {
-        2 => open_out(family, k),
+        OPEN => open_out(family, k),
         _ => k,
     }
 }
@@ -40,12 +48,18 @@ fn open_out(family: Family, k: Knowledge) -> Knowledge
 {
     let data = k.data;
     match data {
-        Standing::Known(mode) => { if mode < 2 { k } else { counted_up(family, k) } }
+        Standing::Known(mode) => {
+            if mode < READ_KEYS {
+                k
+            } else {
+                counted_up(family, k)
+            }
+        }
         Standing::Unknown => {
-            let writing = both(with_data(k, 0), with_data(k, 1));
-            let keys = both(writing, counted_up(family, with_data(k, 2)));
+            let writing = both(with_data(k, WRITE_DISPLAY), with_data(k, WRITE_LED));
+            let keys = both(writing, counted_up(family, with_data(k, READ_KEYS)));
             match family {
-                Family::Pt6312 => both(keys, counted_up(family, with_data(k, 3))),
+                Family::Pt6312 => both(keys, counted_up(family, with_data(k, READ_SWITCHES))),
                 Family::Pt6315 => keys,
             }
         }
