@@ -119,13 +119,6 @@ common-ways zero s t h = refl
 common-ways (suc zero) s t h = h zero
 common-ways (suc (suc n)) s t h = rw (common-ways (suc n) s t h, h (suc n)) refl
 
--- One way is unknown.
-pub common-not : (n : ℕ) (s : ℕ → Standing) (i : ℕ) → i < n → s i ≡ unknown → common n s ≡ unknown
-common-not n s i l p =
-    same-standing (common n s) unknown
-    (λ v e. absurd (not-known v (sym p ∙ common-each n s v e i l)))
-    (λ v e. absurd (not-known v e))
-
 -- Two, three and four ways.
 module _ (s : ℕ → Standing) (r a b : Standing) where
   pub two-ways : r ≡ join a b → a ≡ s 0 → b ≡ s 1 → r ≡ common 2 s

@@ -41,10 +41,10 @@ every P c a d s m b v l k w r p switches = w
 every P c a d s m b v l k w r p readCount = r
 every P c a d s m b v l k w r p position = p
 
-cells-apart : (i j : ℕ) → cell i ≡ cell j → i ≡ j
+pub cells-apart : (i j : ℕ) → cell i ≡ cell j → i ≡ j
 cells-apart i j e = cc
 
-keys-apart : (i j : ℕ) → key i ≡ key j → i ≡ j
+pub keys-apart : (i j : ℕ) → key i ≡ key j → i ≡ j
 keys-apart i j e = cc
 
 -- The cells with one of them set, as the rule has them.

@@ -17,7 +17,7 @@ use Rattle.knowing.specs.Know.{lifted, join, common}
 use Rattle.knowing.specs.Look.{look-unknown}
 use Rattle.segment.specs.declared.chip.Sizes.{Sizes}
 use Rattle.segment.specs.Fact.{Fact, same?, range, cell, address, dataMode, stepping, mode, dimming, display, led, key, switches, readCount, position}
-use Rattle.segment.specs.Laws.{every}
+use Rattle.segment.specs.Laws.{every, keys-apart}
 use Rattle.segment.specs.Move.{sets, stored, keysLatched}
 use Rattle.segment_known.specs.declared.knowledge.Knowledge.{Knowledge}
 use Rattle.segment_known.specs.View.{coded, kview, Knows}
@@ -38,12 +38,6 @@ module _ (numbered : ℕ → Fact) (apart : (i j : ℕ) → numbered i ≡ numbe
           let q : j ≡ i = apart j i p in
           ap coded (ap (λ (n : ℕ). getD (set l i b) n 256) q ∙ getD-set-same l i b 256 h) ∙ coded-byte b small
       go (no n) = ap coded (getD-set-other l i j b 256 (λ p. n (ap numbered p))) ∙ e
-
-pub cells-apart : (i j : ℕ) → cell i ≡ cell j → i ≡ j
-cells-apart i j e = cc
-
-pub keys-apart : (i j : ℕ) → key i ≡ key j → i ≡ j
-keys-apart i j e = cc
 
 -- The fourth key byte, which only some parts have.
 pub fourth-set : (v : Fact → Of.Standing) (t : Bool) (l : List ℕ) (b j : ℕ) → b < 256 → 3 < length l → ((j : ℕ) → coded (getD l j 256) ≡ v (key j))

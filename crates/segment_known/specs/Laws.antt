@@ -12,7 +12,7 @@ use borrow.Author.Tests.{eqb-true, eqb-false}
 use Rattle.rules.specs.Choice.{whether}
 use Rattle.knowing.specs.Standing.{known, unknown}
 use Rattle.knowing.specs.Know.{join, keptIf}
-use Rattle.knowing.specs.Join.{not-known, known-one, same-standing, join-both, join-known}
+use Rattle.knowing.specs.Join.{join-both, join-other}
 use Rattle.segment_known.specs.declared.knowledge.Knowledge.{Knowledge}
 use Rattle.segment_known.specs.View.{coded, stands}
 
@@ -49,9 +49,7 @@ both-coded a b = go (eqb a b) refl
     other true true p q d = refl
     other true false p q d = refl
     other false true p q d = refl
-    other false false p q d = sym (same-standing (join (known a) (known b)) unknown
-        (λ v e. let h = join-known (known a) (known b) v e in absurd (d (known-one a v (h .0) ∙ sym (known-one b v (h .1)))))
-        (λ v e. absurd (not-known v e)))
+    other false false p q d = join-other (known a) (known b) a b refl refl d
 
     go : (t : Bool) → eqb a b ≡ t → coded (whether t a 256) ≡ join (coded a) (coded b)
     go true e = sym (ap (λ (x : ℕ). join (coded a) (coded x)) (sym (eqb-true a b e)) ∙ same-code a)
@@ -69,7 +67,7 @@ joined-view a b r n j la lb i = go (decLt i n)
         let y : getD b i 256 ≡ 256 = List·getD-eq-default b 256 (omega arith) in
         ap coded (j .rest i (omega arith)) ∙ rw (x, y) refl
 
--- What `both_settings` gives: these single facts of both, and the first's others.
+-- What `both_settings` promises: these single facts of both. The caller sets the others itself.
 pub record BothSettings (a b r : Knowledge) : Type 0 where
   pub mode : stands (r .mode) ≡ join (stands (a .mode)) (stands (b .mode))
   pub dimming : stands (r .dimming) ≡ join (stands (a .dimming)) (stands (b .dimming))
@@ -78,6 +76,7 @@ pub record BothSettings (a b r : Knowledge) : Type 0 where
   pub switches : stands (r .switches) ≡ join (stands (a .switches)) (stands (b .switches))
   pub count : stands (r .count) ≡ join (stands (a .count)) (stands (b .count))
 
+-- No code joined yet.
 pub joined-none : (a b : List ℕ) → Joined a b 0 a
 joined-none a b = record { first = λ i l. absurd (omega arith); rest = λ i l. refl; size = refl }
 

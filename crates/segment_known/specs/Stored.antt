@@ -16,6 +16,7 @@ use Rattle.segment.specs.declared.chip.Sizes.{Sizes}
 use Rattle.segment.specs.declared.chip.Pointer.the-variants.{At, Invalid}
 use Rattle.segment.specs.Value.{pointer}
 use Rattle.segment.specs.Fact.{Fact, same?, range, cell, address, dataMode, stepping, mode, dimming, display, led, key, switches, readCount, position}
+use Rattle.segment.specs.Laws.{cells-apart}
 use Rattle.segment.specs.Move.{sets, after, storedAt, stored}
 
 -- A fact that is not the one set.
@@ -60,9 +61,6 @@ unfolding tag
 not-address j e =
     let z : _≡_ {A = ℕ} 0 1 = ap tag e in
     omega arith
-
-apart : (i j : ℕ) → cell i ≡ cell j → i ≡ j
-apart i j e = cc
 
 module _ (s : Sizes) (b i : ℕ) where
   -- A fact other than the address and the cell.
@@ -149,7 +147,7 @@ module _ (s : Sizes) (b : ℕ) (k : Fact → Standing) where
   beyond-stay j h =
       rest-stay (cell j) (not-address j)
       (λ i l e.
-      let z = apart j i e in
+      let z = cells-apart j i e in
       omega arith)
 
   pub cell-common : (j : ℕ) → j < s .cells → join (k (cell j)) (known b) ≡ common (suc (s .cells)) (ways (cell j))
@@ -160,7 +158,7 @@ module _ (s : Sizes) (b : ℕ) (k : Fact → Standing) where
     where
       each : (w : ℕ) → w < suc (s .cells) → ¬ (w ≡ suc j) → ways (cell j) w ≡ k (cell j)
       each zero h d = refl
-      each (suc i) h d = at-cell (cell j) i (k (cell j)) (omega arith) (rests s b i (learn same? address (suc i) k) (cell j) (λ e. absurd (not-address j e)) (λ e. d (ap suc (sym (apart j i e)))))
+      each (suc i) h d = at-cell (cell j) i (k (cell j)) (omega arith) (rests s b i (learn same? address (suc i) k) (cell j) (λ e. absurd (not-address j e)) (λ e. d (ap suc (sym (cells-apart j i e)))))
 
   pub address-lost : 1 < s .cells → unknown ≡ common (suc (s .cells)) (ways address)
   address-lost room =

@@ -43,7 +43,7 @@ pub fn both(a: Knowledge, b: Knowledge) -> Knowledge
     }
 }
 
-// The other single facts of both, with the first's cells, keys, address, data setting and position.
+// The other single facts of both; what else stands there is the first's, and `both` sets it anew.
 fn both_settings(a: Knowledge, b: Knowledge) -> Knowledge
     ensures { λ r. ⌜ BothSettings a b r ⌝ }
 {

@@ -4,8 +4,8 @@ use Rattle.segment.specs.Fact.{cell, address}
 use mathlib.Core.Path.{refl, ap, _∙_}
 use native.Mathlib.Omega.{arith}
 use Rattle.segment_known.specs.View.{coded, kview}
-use Rattle.segment.specs.Laws.{room}
-use Rattle.segment_known.specs.Cells.{coded-set, cells-apart}
+use Rattle.segment.specs.Laws.{room, cells-apart}
+use Rattle.segment_known.specs.Cells.{coded-set}
 use Rattle.rules.specs.Change.{keep}
 use lib.ListN.{length, getD}
 use Prim.Native.Nat.{ℕ, _<_}
