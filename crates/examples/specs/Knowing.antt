@@ -16,8 +16,8 @@ use Rattle.segment.specs.Value.{at-position, data-mode, steps}
 use Rattle.segment.specs.Family.{sizes}
 use Rattle.segment.specs.Fact.{same?, range, cell, address, dataMode, stepping, position}
 use Rattle.segment.specs.Move.{move, byteIn, written, stored}
-use Rattle.segment_known.specs.declared.knowledge.Knowledge.{Knowledge}
-use Rattle.segment_known.specs.View.{kview, Knows}
+use Rattle.segment_knowledge.specs.declared.knowledge.Knowledge.{Knowledge}
+use Rattle.segment_knowledge.specs.View.{kview, Knows}
 use Rattle.segment_known.specs.Stored.{cell-common}
 
 -- Open, write display, address unknown: a cell of the part keeps what it has in common with the byte.

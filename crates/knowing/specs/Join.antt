@@ -119,20 +119,6 @@ common-ways zero s t h = refl
 common-ways (suc zero) s t h = h zero
 common-ways (suc (suc n)) s t h = rw (common-ways (suc n) s t h, h (suc n)) refl
 
--- Two, three and four ways.
-module _ (s : ℕ → Standing) (r a b : Standing) where
-  pub two-ways : r ≡ join a b → a ≡ s 0 → b ≡ s 1 → r ≡ common 2 s
-  unfolding common
-  two-ways e p q = e ∙ rw (p, q) refl
-
-  pub three-ways : (c : Standing) → r ≡ join (join a b) c → a ≡ s 0 → b ≡ s 1 → c ≡ s 2 → r ≡ common 3 s
-  unfolding common
-  three-ways c e p q t = e ∙ rw (p, q, t) refl
-
-  pub four-ways : (c d : Standing) → r ≡ join (join (join a b) c) d → a ≡ s 0 → b ≡ s 1 → c ≡ s 2 → d ≡ s 3 → r ≡ common 4 s
-  unfolding common
-  four-ways c d e p q t u = e ∙ rw (p, q, t, u) refl
-
 -- The order of two ways does not matter.
 pub join-swap : (s t : Standing) → join s t ≡ join t s
 join-swap s t =
@@ -143,3 +129,10 @@ join-swap s t =
     (λ v e.
     let h = join-known t s v e in
     join-both s t v (h .1) (h .0))
+
+-- What is common to a way and to another is common to that one again.
+pub join-again : (s t : Standing) → join (join s t) t ≡ join s t
+join-again s t =
+    same-standing (join (join s t) t) (join s t)
+    (λ v e. join-known (join s t) t v e .0)
+    (λ v e. join-both (join s t) t v e (join-known s t v e .1))

@@ -5,3 +5,4 @@ pub mod Fill
 pub mod Exact
 pub mod Moves
 pub mod Look
+pub mod Ways

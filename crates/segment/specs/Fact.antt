@@ -1,6 +1,7 @@
 -- The facts of a PT6312 or PT6315, in paper 01's order, and how many values each has (paper 01, "Facts and chips").
 use Prim.Native.Nat.{ℕ, suc}
 use native.Mathlib.Decide.{ℕ-discrete}
+use lib.Dec.{ltb}
 use Rattle.rules.specs.Choice.{whether}
 use Rattle.segment.specs.declared.chip.Sizes.{Sizes}
 
@@ -16,9 +17,13 @@ pub data Fact : Type 0 where
 abbrev pub same? : Discrete Fact
 same? = Fact-discrete ℕ-discrete
 
--- A value is a number below this one. Facts that a part lacks, as a cell past its last, have a range too; no rule looks at them for a chip in range.
+-- What a part lacks, as a cell past its last, a fourth key byte or switches, is no fact of it: whatever its storage holds is in range, and no rule looks at it.
+abbrev pub lacking : ℕ
+lacking = 65536
+
+-- A value is a number below this one.
 abbrev pub range : Sizes → Fact → ℕ
-range s (cell i) = 256
+range s (cell i) = whether (ltb i (s .cells)) 256 lacking
 range s address = suc (s .cells)
 range s dataMode = whether (s .switched) 4 3
 range s stepping = 2
@@ -26,8 +31,8 @@ range s mode = suc (s .top)
 range s dimming = 8
 range s display = 2
 range s led = 16
-range s (key i) = 256
-range s switches = 16
+range s (key i) = whether (ltb i (s .keys)) 256 lacking
+range s switches = whether (s .switched) 16 lacking
 range s readCount = 5
 range s position = 4
 

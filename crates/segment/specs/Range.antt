@@ -1,6 +1,6 @@
 -- A move keeps every fact in its range. The argument: a form that sets a fact to a value in its range, over forms in range, is in range;
 -- each rule is made of such forms, and what a command carries is in range.
-use Prim.Native.Nat.{ℕ, zero, suc, _+_, _<_, _/_, _%_, min}
+use Prim.Native.Nat.{ℕ, zero, suc, _+_, _<_, _≤_, _/_, _%_, min}
 use native.Mathlib.Omega.{arith}
 use mathlib.Core.Path.{_≡_}
 use mathlib.Core.Bool.{Bool, true, false}
@@ -26,7 +26,7 @@ use Rattle.segment.specs.declared.chip.Display.the-variants.{Off, On}
 use Rattle.segment.specs.declared.chip.Position.{Position}
 use Rattle.segment.specs.declared.chip.Position.the-variants.{Idle, First, Open, Ignoring}
 use Rattle.segment.specs.Family.{sizes}
-use Rattle.segment.specs.Fact.{Fact, same?, range, cell, address, dataMode, stepping, mode, dimming, display, led, key, switches, readCount, position}
+use Rattle.segment.specs.Fact.{Fact, same?, lacking, range, cell, address, dataMode, stepping, mode, dimming, display, led, key, switches, readCount, position}
 use Rattle.segment.specs.Value.{pointer, data-mode, steps, shows, at-position}
 use Rattle.segment.specs.Command.{modeOf, settingOf, displayOf, pointerOf, commandOf}
 use Rattle.segment.specs.Move.{Forms, sets, then, toMode, commanded, after, stored, byteIn, counted, byteOut, keysLatched, switchesLatched, move}
@@ -44,6 +44,11 @@ pub proper : (p : Family) → Proper (sizes p)
 unfolding sizes
 proper Pt6312 = record { some = omega arith; nibble = omega arith }
 proper Pt6315 = record { some = omega arith; nibble = omega arith }
+
+-- A value below n is in the range of a fact with n values, and in that of what a part lacks.
+below : (t : Bool) (n v : ℕ) → n ≤ lacking → v < n → v < whether t n lacking
+below true n v m h = h
+below false n v m h = omega arith
 
 steps-fit : (i : Stepping) → steps i < 2
 steps-fit Increment = omega arith
@@ -134,11 +139,14 @@ module _ (s : Sizes) (p : Proper s) where
       (λ t. omega (arith, ltb-true (i + 1) (s .cells) t))
       (λ _. omega arith)
 
+  byte : (t : Bool) (b : ℕ) → b < 256 → b < whether t 256 lacking
+  byte t b h = below t 256 b (omega arith) h
+
   stored-fits : (b a : ℕ) → b < 256 → Fine (stored s b a)
   stored-fits b zero h = kept
   stored-fits b (suc i) h =
       whether-all Fine (ltb i (s .cells)) _ _
-      (λ _ n _. of2-all Fine _ _ (sets-fit address _ _ (after-fits i) (sets-fit (cell i) b _ h kept)) (sets-fit (cell i) b _ h kept) n)
+      (λ _ n _. of2-all Fine _ _ (sets-fit address _ _ (after-fits i) (sets-fit (cell i) b _ (byte (ltb i (s .cells)) b h) kept)) (sets-fit (cell i) b _ (byte (ltb i (s .cells)) b h) kept) n)
       (λ _. kept)
 
   byte-fits : (b q : ℕ) → b < 256 → Fine (byteIn s b q)
@@ -161,14 +169,14 @@ module _ (s : Sizes) (p : Proper s) where
 
   latched-fits : (k0 k1 k2 k3 : ℕ) → k0 < 256 → k1 < 256 → k2 < 256 → k3 < 256 → InRange same? (range s) (keysLatched s k0 k1 k2 k3)
   latched-fits k0 k1 k2 k3 h0 h1 h2 h3 =
-      sets-fit (key 0) k0 _ h0
-      (sets-fit (key 1) k1 _ h1
-      (sets-fit (key 2) k2 _ h2
-      (change-fits same? (range s) (key 3) _ _ (whether-all (FormIn (range s) 256) (ltb 3 (s .keys)) (value k3) (copy (key 3)) (λ _. h3) (λ _. omega arith)) kept)))
+      sets-fit (key 0) k0 _ (byte (ltb 0 (s .keys)) k0 h0)
+      (sets-fit (key 1) k1 _ (byte (ltb 1 (s .keys)) k1 h1)
+      (sets-fit (key 2) k2 _ (byte (ltb 2 (s .keys)) k2 h2)
+      (change-fits same? (range s) (key 3) _ _ (whether-all (FormIn (range s) (range s (key 3))) (ltb 3 (s .keys)) (value k3) (copy (key 3)) (λ _. byte (ltb 3 (s .keys)) k3 h3) (λ _. omega arith)) kept)))
 
   switched-fits : (v : ℕ) → InRange same? (range s) (switchesLatched s v)
   switched-fits v =
-      whether-all (InRange same? (range s)) (s .switched) _ _ (λ _. sets-fit switches (v % 16) _ (omega arith) kept) (λ _. kept)
+      whether-all (InRange same? (range s)) (s .switched) _ _ (λ _. sets-fit switches (v % 16) _ (below (s .switched) 16 (v % 16) (omega arith) (omega arith)) kept) (λ _. kept)
 
   pub ranged : (e : Event) → Bytes e → Ranged (range s) (range s) (move s e)
   ranged Power h =

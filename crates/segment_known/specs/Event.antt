@@ -2,6 +2,9 @@
 use Prim.Native.Nat.{ℕ, _≤_}
 use native.Mathlib.Omega.{arith}
 use mathlib.Core.Path.{_≡_, sym, _∙_}
+use mathlib.Core.Bool.{Bool, true, false}
+use lib.Dec.{ltb}
+use Rattle.rules.specs.Choice.{whether}
 use Rattle.terms.specs.declared.Event.{Event}
 use Rattle.rules.specs.Turn.{Result}
 use Rattle.rules.specs.Range.{Good}
@@ -11,17 +14,21 @@ use Rattle.knowing.specs.Exact.{know-more}
 use Rattle.segment.specs.declared.chip.Family.{Family}
 use Rattle.segment.specs.declared.chip.Family.the-variants.{Pt6312, Pt6315}
 use Rattle.segment.specs.Family.{sizes}
-use Rattle.segment.specs.Fact.{Fact, same?, range}
+use Rattle.segment.specs.Fact.{Fact, same?, lacking, range}
 use Rattle.segment.specs.Laws.{every}
 use Rattle.segment.specs.Move.{move}
-use Rattle.segment_known.specs.declared.knowledge.Knowledge.{Knowledge}
-use Rattle.segment_known.specs.View.{kview, Knows}
+use Rattle.segment_knowledge.specs.declared.knowledge.Knowledge.{Knowledge}
+use Rattle.segment_knowledge.specs.View.{kview, Knows}
+
+some : (t : Bool) → 2 ≤ whether t 256 lacking
+some true = omega arith
+some false = omega arith
 
 -- No fact has fewer than two values.
 two : (p : Family) (f : Fact) → 2 ≤ range (sizes p) f
 unfolding sizes
-two Pt6312 = every _ (λ i. omega arith) (omega arith) (omega arith) (omega arith) (omega arith) (omega arith) (omega arith) (omega arith) (λ i. omega arith) (omega arith) (omega arith) (omega arith)
-two Pt6315 = every _ (λ i. omega arith) (omega arith) (omega arith) (omega arith) (omega arith) (omega arith) (omega arith) (omega arith) (λ i. omega arith) (omega arith) (omega arith) (omega arith)
+two Pt6312 = every _ (λ i. some (ltb i 22)) (omega arith) (omega arith) (omega arith) (omega arith) (omega arith) (omega arith) (omega arith) (λ i. some (ltb i 3)) (omega arith) (omega arith) (omega arith)
+two Pt6315 = every _ (λ i. some (ltb i 36)) (omega arith) (omega arith) (omega arith) (omega arith) (omega arith) (omega arith) (omega arith) (λ i. some (ltb i 4)) (omega arith) (omega arith) (omega arith)
 
 module _ (p : Family) (e : Event) (k r : Knowledge) (met : Knows (sizes p) (move (sizes p) e) k r) where
   -- A fact is known exactly when all agree on it, and has their value.

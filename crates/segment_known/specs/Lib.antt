@@ -1,5 +1,3 @@
-pub mod View
-pub mod Laws
 pub mod Ways
 pub mod Stored
 pub mod Cells

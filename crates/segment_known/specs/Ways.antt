@@ -1,4 +1,4 @@
--- How the ways of a look come together: a look at a known fact is its one way, and one at an unknown fact is what all ways have in common.
+-- What the looks of this family come to: at a number that the code's match does not name, at an unknown read count, at an unknown mode.
 use Prim.Native.Nat.{ℕ, zero, suc, _/_, _%_, _<_, _≤_}
 use native.Mathlib.Omega.{arith}
 use native.Mathlib.Decide.{ℕ-discrete}
@@ -10,8 +10,9 @@ use Rattle.rules.specs.Rule.{value, Rule, gives, look}
 use Rattle.rules.specs.Change.{keep}
 use Rattle.knowing.specs.Standing as Of
 use Rattle.knowing.specs.Know.{lifted, learn, join, common, know}
-use Rattle.knowing.specs.Join.{two-ways, three-ways, four-ways, common-same, common-two, common-apart}
-use Rattle.knowing.specs.Look.{look-known, look-unknown, know-same}
+use Rattle.knowing.specs.Join.{common-same, common-two, common-apart}
+use Rattle.knowing.specs.Look.{look-unknown}
+use Rattle.knowing.specs.Ways.{Way, Becomes, Joins}
 use Rattle.segment.specs.declared.chip.Sizes.{Sizes}
 use Rattle.segment.specs.declared.chip.Position.the-variants.{Ignoring}
 use Rattle.segment.specs.declared.chip.Display.the-variants.{Off}
@@ -26,55 +27,8 @@ use Rattle.segment.specs.declared.chip.Family.the-variants.{Pt6312, Pt6315}
 use Rattle.segment.specs.Fact.{Fact, same?, range, cell, address, dataMode, stepping, mode, dimming, display, led, key, switches, readCount, position}
 use Rattle.segment.specs.Laws.{every}
 use Rattle.segment.specs.Move.{sets, then, nothing, toMode, counted}
-use Rattle.segment_known.specs.declared.knowledge.Knowledge.{Knowledge}
-use Rattle.segment_known.specs.View.{kview, Knows, Becomes}
-
--- One way of a look: what the rule makes of the knowledge with the value learnt.
-abbrev pub Way : Sizes → Rule Fact Fact → Knowledge → Fact → ℕ → Knowledge → Type 0
-Way s rule k g v r = (f : Fact) → kview r f ≡ know same? (range s) rule (learn same? g v (kview k)) f
-
-pub way : (s : Sizes) (rule : Rule Fact Fact) (k l r : Knowledge) (g : Fact) (v : ℕ) → ((f : Fact) → kview l f ≡ learn same? g v (kview k) f) → Knows s rule l r → Way s rule k g v r
-way s rule k l r g v e h f = h f ∙ know-same same? (range s) rule (kview l) (learn same? g v (kview k)) e f
-
-module _ (s : Sizes) (g : Fact) (κ : ℕ → Rule Fact Fact) (k r : Knowledge) where
-  abbrev ways : Fact → ℕ → Of.Standing
-  ways f w = know same? (range s) (κ w) (learn same? g w (kview k)) f
-
-  pub known-way : (v : ℕ) → kview k g ≡ Of.known v → Knows s (κ v) k r → Knows s (look g κ) k r
-  known-way v e h f = look-known same? (range s) g κ (kview k) f v (kview r f) e (h f)
-
-  pub two-known : (a b : Knowledge) → range s g ≡ 2 → kview k g ≡ Of.unknown → ((f : Fact) → kview r f ≡ join (kview a f) (kview b f))
-      → Way s (κ 0) k g 0 a → Way s (κ 1) k g 1 b → Knows s (look g κ) k r
-  two-known a b n u e p q f =
-      look-unknown same? (range s) g κ (kview k) f (kview r f) u (subst⁻¹ (λ (m : ℕ). kview r f ≡ common m (ways f)) n (two-ways (ways f) (kview r f) (kview a f) (kview b f) (e f) (p f) (q f)))
-
-  pub three-known : (a b c x : Knowledge) → range s g ≡ 3 → kview k g ≡ Of.unknown → ((f : Fact) → kview r f ≡ join (kview x f) (kview c f)) → ((f : Fact) → kview x f ≡ join (kview a f) (kview b f))
-      → Way s (κ 0) k g 0 a → Way s (κ 1) k g 1 b → Way s (κ 2) k g 2 c → Knows s (look g κ) k r
-  three-known a b c x n u e d p q t f =
-      look-unknown same? (range s) g κ (kview k) f (kview r f) u
-      (subst⁻¹ (λ (m : ℕ). kview r f ≡ common m (ways f)) n
-      (three-ways (ways f) (kview r f) (kview a f) (kview b f) (kview c f) (e f ∙ ap (λ (y : Of.Standing). join y (kview c f)) (d f)) (p f) (q f) (t f)))
-
-  pub four-known : (a b c d x y : Knowledge) → range s g ≡ 4 → kview k g ≡ Of.unknown
-      → ((f : Fact) → kview r f ≡ join (kview y f) (kview d f)) → ((f : Fact) → kview y f ≡ join (kview x f) (kview c f)) → ((f : Fact) → kview x f ≡ join (kview a f) (kview b f))
-      → Way s (κ 0) k g 0 a → Way s (κ 1) k g 1 b → Way s (κ 2) k g 2 c → Way s (κ 3) k g 3 d → Knows s (look g κ) k r
-  four-known a b c d x y n u e1 e2 e3 p q t v f =
-      look-unknown same? (range s) g κ (kview k) f (kview r f) u
-      (subst⁻¹ (λ (m : ℕ). kview r f ≡ common m (ways f)) n
-      (four-ways (ways f) (kview r f) (kview a f) (kview b f) (kview c f) (kview d f)
-      (e1 f ∙ ap (λ (z : Of.Standing). join z (kview d f)) (e2 f ∙ ap (λ (z : Of.Standing). join z (kview c f)) (e3 f))) (p f) (q f) (t f) (v f)))
-
--- A rule that is another, in name, makes the same of a knowledge.
-pub as-rule : (s : Sizes) (a b : Rule Fact Fact) (k r : Knowledge) → a ≡ b → Knows s b k r → Knows s a k r
-as-rule s a b k r e h f = subst⁻¹ (λ (x : Rule Fact Fact). kview r f ≡ know same? (range s) x (kview k) f) e (h f)
-
--- What a fact learns is what a rule that only sets it makes of it.
-pub learnt : (k r : Knowledge) (g : Fact) (v : ℕ) → ((f : Fact) → kview r f ≡ learn same? g v (kview k) f) → Becomes (sets g v keep) k r
-learnt k r g v e f = e f ∙ go (same? f g)
-  where
-    go : (d : Dec (f ≡ g)) → _≡_ {A = Of.Standing} (elim d [ yes e ↦ Of.known v | no n ↦ kview k f ]) (lifted (kview k) (elim d [ yes _ ↦ value v | no _ ↦ keep f ]))
-    go (yes _) = refl
-    go (no _) = refl
+use Rattle.segment_knowledge.specs.declared.knowledge.Knowledge.{Knowledge}
+use Rattle.segment_knowledge.specs.View.{kview, Knows}
 
 -- The choices that no number of the code's match names.
 pub other-in : (a b : Rule Fact Fact) (n : ℕ) → ¬ (n ≡ 1) → ¬ (n ≡ 2) → of4 nothing a b nothing n ≡ nothing
@@ -154,8 +108,8 @@ pub mode-small : (s : Sizes) (b m : ℕ) → Mode m ≡ commandOf s b → m ≤ 
 mode-small s b m e = subst⁻¹ (λ (c : Command). codeOf c ≤ s .top) e (small s b)
 
 -- An unknown mode: it may be the one that the byte names, and then only the position changes, or another, and then the display goes off too.
-pub mode-unknown : (s : Sizes) (k r a b : Knowledge) (m : ℕ) → m ≤ s .top → 1 ≤ s .top → kview k mode ≡ Of.unknown → ((f : Fact) → kview r f ≡ join (kview a f) (kview b f))
-    → Way s (gives (then Ignoring)) k mode m a → Becomes (sets mode m (sets display (shows Off) (then Ignoring))) k b → Knows s (look mode (toMode m)) k r
+pub mode-unknown : (s : Sizes) (k r a b : Knowledge) (m : ℕ) → m ≤ s .top → 1 ≤ s .top → kview k mode ≡ Of.unknown → Joins kview a b r
+    → Way kview same? (range s) (gives (then Ignoring)) k mode m a → Becomes kview (sets mode m (sets display (shows Off) (then Ignoring))) k b → Knows s (look mode (toMode m)) k r
 mode-unknown s k r a b m small room u e p q f =
     look-unknown same? (range s) mode (toMode m) (kview k) f (kview r f) u
     (e f ∙ sym (by (ℕ-discrete m 0)))

@@ -1,36 +1,38 @@
 // What a byte clocked in makes of a knowledge.
 use crate::commanded::first_in;
-use crate::join::both;
-use crate::join::both_cells;
-use crate::knowledge::Knowledge;
-use crate::knowledge::Pointing;
-use crate::knowledge::Standing;
-use crate::knowledge::at;
-use crate::knowledge::stepping_by;
-use crate::knowledge::with_data;
-use crate::numbers::FIRST;
-use crate::numbers::FIXED;
-use crate::numbers::IDLE;
-use crate::numbers::IGNORING;
-use crate::numbers::INCREMENT;
-use crate::numbers::OPEN;
-use crate::numbers::READ_KEYS;
-use crate::numbers::READ_SWITCHES;
-use crate::numbers::WRITE_DISPLAY;
-use crate::numbers::WRITE_LED;
 use segment::Family;
+use segment_knowledge::FIRST;
+use segment_knowledge::FIXED;
+use segment_knowledge::IDLE;
+use segment_knowledge::IGNORING;
+use segment_knowledge::INCREMENT;
+use segment_knowledge::Knowledge;
+use segment_knowledge::OPEN;
+use segment_knowledge::Pointing;
+use segment_knowledge::READ_KEYS;
+use segment_knowledge::READ_SWITCHES;
+use segment_knowledge::WRITE_DISPLAY;
+use segment_knowledge::WRITE_LED;
+use segment_knowledge::at;
+use segment_knowledge::both;
+use segment_knowledge::stepping_by;
+use segment_knowledge::with_data;
+use standing::Standing;
+use standing::meet;
 use terms::Address;
 ghost use mathlib.Core.Path.{_≡_};
-ghost use Prim.Native.Nat.{_%_, _<_};
+ghost use Prim.Native.Nat.{_%_, _<_, _≤_};
 ghost use lib.ListN.{length, set};
 ghost use Rattle.rules.specs.Rule.{look};
 ghost use Rattle.rules.specs.Change.{keep};
 ghost use Rattle.knowing.specs.Standing.{known, unknown};
+ghost use Rattle.knowing.specs.Ways.{Becomes};
+ghost use Rattle.standing.specs.Codes.{Met};
 ghost use Rattle.segment.specs.Fact.{address, dataMode, stepping, led, position};
 ghost use Rattle.segment.specs.Family.{sizes};
 ghost use Rattle.segment.specs.Value.{pointer};
 ghost use Rattle.segment.specs.Move.{sets, after, storedAt, stored, written, byteIn};
-ghost use Rattle.segment_known.specs.View.{kview, Becomes, Knows, points};
+ghost use Rattle.segment_knowledge.specs.View.{kview, Knows, points};
 
 pub fn byte_in(family: Family, k: Knowledge, byte: u8) -> Knowledge
     ensures { λ r. ⌜ Knows (sizes family) (look position (byteIn (sizes family) byte)) k r ⌝ }
@@ -85,7 +87,7 @@ fn written_in(family: Family, k: Knowledge, byte: u8, mode: u8) -> Knowledge
 }
 
 fn led_in(k: Knowledge, byte: u8) -> Knowledge
-    ensures { λ r. ⌜ Becomes (sets led (byte % 16) keep) k r ⌝ }
+    ensures { λ r. ⌜ Becomes kview (sets led (byte % 16) keep) k r ⌝ }
 {
     Knowledge {
         led: Standing::Known(byte % 16),
@@ -176,9 +178,17 @@ fn stored_somewhere(family: Family, k: Knowledge, byte: u8) -> Knowledge
     ensures { λ r. ⌜ Knows (sizes family) (look address (stored (sizes family) byte)) k r ⌝ }
 {
     let sizes = family.sizes();
-    let count = sizes.cells as usize;
     let old = k.cells;
-    let same = [byte as u16; 36];
-    let cells = both_cells(old, same, count);
+    let cells = cells_meet(old, sizes.cells, byte);
     Knowledge { cells, ..k }
+}
+
+// The first `count` cells keep what they have in common with the byte.
+fn cells_meet(cells: [u16; 36], count: u8, byte: u8) -> [u16; 36]
+    requires { ⌜ count ≤ 36 ⌝ }
+    ensures { λ r. ⌜ Met cells 0 1 byte count r ⌝ }
+{
+    let mut new = cells;
+    meet(&mut new, 0, 1, count as usize, byte);
+    new
 }

@@ -1,7 +1,7 @@
 // What latched keys and switches make of a knowledge.
-use crate::knowledge::Knowledge;
-use crate::knowledge::Standing;
 use segment::Family;
+use segment_knowledge::Knowledge;
+use standing::Standing;
 ghost use mathlib.Core.Path.{_≡_};
 ghost use Prim.Native.Nat.{_<_};
 ghost use lib.Dec.{ltb};
@@ -10,7 +10,7 @@ ghost use Rattle.rules.specs.Choice.{whether};
 ghost use Rattle.rules.specs.Rule.{gives};
 ghost use Rattle.segment.specs.Family.{sizes};
 ghost use Rattle.segment.specs.Move.{keysLatched, switchesLatched};
-ghost use Rattle.segment_known.specs.View.{Knows};
+ghost use Rattle.segment_knowledge.specs.View.{Knows};
 
 pub fn keys_latched(family: Family, k: Knowledge, k0: u8, k1: u8, k2: u8, k3: u8) -> Knowledge
     ensures { λ r. ⌜ Knows (sizes family) (gives (keysLatched (sizes family) k0 k1 k2 k3)) k r ⌝ }

@@ -1,25 +1,25 @@
 // What each event makes of a knowledge.
 use crate::bytes::byte_in;
-use crate::knowledge::Knowledge;
-use crate::knowledge::Pointing;
-use crate::knowledge::Standing;
-use crate::knowledge::at;
-use crate::knowledge::nothing_known;
 use crate::latches::keys_latched;
 use crate::latches::switches_latched;
-use crate::numbers::FIRST;
-use crate::numbers::IDLE;
-use crate::numbers::INCREMENT;
-use crate::numbers::OFF;
-use crate::numbers::WRITE_DISPLAY;
 use crate::reads::byte_out;
 use segment::Family;
+use segment_knowledge::FIRST;
+use segment_knowledge::IDLE;
+use segment_knowledge::INCREMENT;
+use segment_knowledge::Knowledge;
+use segment_knowledge::OFF;
+use segment_knowledge::Pointing;
+use segment_knowledge::WRITE_DISPLAY;
+use segment_knowledge::at;
+use segment_knowledge::nothing_known;
+use standing::Standing;
 use terms::Address;
 use terms::Event;
 ghost use Rattle.rules.specs.Rule.{gives};
 ghost use Rattle.segment.specs.Family.{sizes};
 ghost use Rattle.segment.specs.Move.{powered, move};
-ghost use Rattle.segment_known.specs.View.{Knows};
+ghost use Rattle.segment_knowledge.specs.View.{Knows};
 
 // The knowledge after an event.
 pub fn moved(family: Family, k: Knowledge, event: Event) -> Knowledge

@@ -1,24 +1,24 @@
 // What a byte clocked out makes of a knowledge.
-use crate::join::both;
-use crate::knowledge::Knowledge;
-use crate::knowledge::Standing;
-use crate::knowledge::at;
-use crate::knowledge::with_data;
-use crate::numbers::FIRST;
-use crate::numbers::IDLE;
-use crate::numbers::IGNORING;
-use crate::numbers::OPEN;
-use crate::numbers::READ_KEYS;
-use crate::numbers::READ_SWITCHES;
-use crate::numbers::WRITE_DISPLAY;
-use crate::numbers::WRITE_LED;
 use segment::Family;
+use segment_knowledge::FIRST;
+use segment_knowledge::IDLE;
+use segment_knowledge::IGNORING;
+use segment_knowledge::Knowledge;
+use segment_knowledge::OPEN;
+use segment_knowledge::READ_KEYS;
+use segment_knowledge::READ_SWITCHES;
+use segment_knowledge::WRITE_DISPLAY;
+use segment_knowledge::WRITE_LED;
+use segment_knowledge::at;
+use segment_knowledge::both;
+use segment_knowledge::with_data;
+use standing::Standing;
 ghost use mathlib.Core.Path.{_≡_};
 ghost use Rattle.rules.specs.Rule.{look};
 ghost use Rattle.segment.specs.Family.{sizes};
 ghost use Rattle.segment.specs.Fact.{dataMode, readCount, position};
 ghost use Rattle.segment.specs.Move.{counted, readOut, byteOut};
-ghost use Rattle.segment_known.specs.View.{Knows};
+ghost use Rattle.segment_knowledge.specs.View.{Knows};
 
 pub fn byte_out(family: Family, k: Knowledge) -> Knowledge
     ensures { λ r. ⌜ Knows (sizes family) (look position byteOut) k r ⌝ }

@@ -1,5 +1,6 @@
 -- `segment_known::bytes::open_in` meets its contract: a known data mode goes its one way, an unknown one all that the part has.
 -- Assumes nothing.
+use Rattle.segment_knowledge.specs.View.{kview}
 use Rattle.segment.specs.Move.{sets, nothing, stored, written}
 use Rattle.segment.specs.Fact.{address, dataMode, mode, led}
 use Rattle.rules.specs.Rule.{gives, look}
@@ -7,9 +8,10 @@ use Prim.Native.Nat.{_%_}
 use Rattle.rules.specs.Change.{keep}
 use Rattle.segment.specs.Fact.{range}
 use mathlib.Core.Path.{ap}
-use Rattle.segment_known.specs.View.{stands}
+use Rattle.standing.specs.View.{stands}
 use Rattle.segment.specs.Family.{sizes}
-use Rattle.segment_known.specs.Ways.{way, known-way, three-known, four-known}
+use Rattle.knowing.specs.Ways.{way, known-way, first-way, next-way, all-ways}
+use Rattle.segment.specs.Fact.{same?}
 use borrow.Author.Needs.{needs}
 use Rattle.segment_known.proofs.bytes.open_in.Statement.{statement}
 use Rattle.segment_known.proofs.bytes.open_in.Tie as tie
@@ -59,21 +61,31 @@ enum-told-3 c = search needs
 returns : tie.Need-returns
 returns c = let a = c .before .before .before .before .args in
     let s = sizes (a .family) in
-    known-way s dataMode (written s (a .byte)) (a .k) _ _ (ap stands (c .before .before .«data» .given .1)) (c .written-in .ensures)
+    known-way kview same? (range s) dataMode (written s (a .byte)) (a .k) _ _ (ap stands (c .before .before .«data» .given .1)) (c .written-in .ensures)
 
 returns-2 : tie.Need-returns-2
 unfolding sizes
 returns-2 c = let a = c .before .before .before .before .before .before .before .before .before .before .before .before .before .args in
     let s = sizes (a .family) in
-    four-known s dataMode (written s (a .byte)) (a .k) _ _ _ _ _ _ _ (ap (λ p. range (sizes p) dataMode) (c .before .before .enum-told2 .given .1)) (ap stands (c .before .before .before .before .before .before .before .before .before .before .before .enum-told .given .1)) (c .both3 .ensures) (c .before .before .before .before .both2 .ensures) (c .before .before .before .before .before .before .both .ensures)
-    (way s (look address (stored s (a .byte))) _ _ _ _ _ (c .before .before .before .before .before .before .before .before .before .before .with-data .ensures) (c .before .before .before .before .before .before .before .before .before .stored-by .ensures)) (way s (gives (sets led (a .byte % 16) keep)) _ _ _ _ _ (c .before .before .before .before .before .before .before .before .with-data2 .ensures) (c .before .before .before .before .before .before .before .led-in .ensures)) (c .before .before .before .before .before .with-data3 .ensures) (c .before .with-data4 .ensures)
+    all-ways kview same? (range s) dataMode (written s (a .byte)) (a .k) 4 _ (ap (λ p. range (sizes p) dataMode) (c .before .before .enum-told2 .given .1)) (ap stands (c .before .before .before .before .before .before .before .before .before .before .before .enum-told .given .1))
+    (next-way kview same? (range s) dataMode (written s (a .byte)) (a .k) 2 _ _ _ (c .both3 .ensures)
+    (next-way kview same? (range s) dataMode (written s (a .byte)) (a .k) 1 _ _ _ (c .before .before .before .before .both2 .ensures)
+    (next-way kview same? (range s) dataMode (written s (a .byte)) (a .k) 0 _ _ _ (c .before .before .before .before .before .before .both .ensures)
+    (first-way kview same? (range s) dataMode (written s (a .byte)) (a .k) _ (way kview same? (range s) (look address (stored s (a .byte))) _ _ _ _ _ (c .before .before .before .before .before .before .before .before .before .before .with-data .ensures) (c .before .before .before .before .before .before .before .before .before .stored-by .ensures)))
+    (way kview same? (range s) (gives (sets led (a .byte % 16) keep)) _ _ _ _ _ (c .before .before .before .before .before .before .before .before .with-data2 .ensures) (c .before .before .before .before .before .before .before .led-in .ensures)))
+    (c .before .before .before .before .before .with-data3 .ensures))
+    (c .before .with-data4 .ensures))
 
 returns-3 : tie.Need-returns-3
 unfolding sizes
 returns-3 c = let a = c .before .before .before .before .before .before .before .before .before .before .before .args in
     let s = sizes (a .family) in
-    three-known s dataMode (written s (a .byte)) (a .k) _ _ _ _ _ (ap (λ p. range (sizes p) dataMode) (c .enum-told3 .given .1)) (ap stands (c .before .before .before .before .before .before .before .before .before .enum-told .given .1)) (c .before .before .both2 .ensures) (c .before .before .before .before .both .ensures)
-    (way s (look address (stored s (a .byte))) _ _ _ _ _ (c .before .before .before .before .before .before .before .before .with-data .ensures) (c .before .before .before .before .before .before .before .stored-by .ensures)) (way s (gives (sets led (a .byte % 16) keep)) _ _ _ _ _ (c .before .before .before .before .before .before .with-data2 .ensures) (c .before .before .before .before .before .led-in .ensures)) (c .before .before .before .with-data3 .ensures)
+    all-ways kview same? (range s) dataMode (written s (a .byte)) (a .k) 3 _ (ap (λ p. range (sizes p) dataMode) (c .enum-told3 .given .1)) (ap stands (c .before .before .before .before .before .before .before .before .before .enum-told .given .1))
+    (next-way kview same? (range s) dataMode (written s (a .byte)) (a .k) 1 _ _ _ (c .before .before .both2 .ensures)
+    (next-way kview same? (range s) dataMode (written s (a .byte)) (a .k) 0 _ _ _ (c .before .before .before .before .both .ensures)
+    (first-way kview same? (range s) dataMode (written s (a .byte)) (a .k) _ (way kview same? (range s) (look address (stored s (a .byte))) _ _ _ _ _ (c .before .before .before .before .before .before .before .before .with-data .ensures) (c .before .before .before .before .before .before .before .stored-by .ensures)))
+    (way kview same? (range s) (gives (sets led (a .byte % 16) keep)) _ _ _ _ _ (c .before .before .before .before .before .before .with-data2 .ensures) (c .before .before .before .before .before .led-in .ensures)))
+    (c .before .before .before .with-data3 .ensures))
 
 pub open-in-spec : {M : Type 1} → statement M
 open-in-spec =

@@ -1,11 +1,13 @@
 -- `segment_known::bytes::stored_at` meets its contract: a known stepping goes its one way, an unknown one both.
 -- Assumes nothing.
+use Rattle.segment_knowledge.specs.View.{kview}
 use Rattle.segment.specs.Family.{sizes}
 use Rattle.segment.specs.Move.{nothing, storedAt}
 use Rattle.segment.specs.Fact.{cell, stepping}
 use mathlib.Core.Path.{refl, ap}
-use Rattle.segment_known.specs.View.{stands}
-use Rattle.segment_known.specs.Ways.{way, known-way, two-known}
+use Rattle.standing.specs.View.{stands}
+use Rattle.knowing.specs.Ways.{way, known-way, first-way, next-way, all-ways}
+use Rattle.segment.specs.Fact.{same?, range}
 use borrow.Author.Needs.{needs}
 use Rattle.segment_known.proofs.bytes.stored_at.Statement.{statement}
 use Rattle.segment_known.proofs.bytes.stored_at.Tie as tie
@@ -37,12 +39,15 @@ both-requires c κs = search needs
 returns : tie.Need-returns
 returns c = let a = c .before .before .before .before .args in
     let s = sizes (a .family) in
-    known-way s stepping (storedAt s (a .byte) (a .cell .0)) (a .k) _ _ (ap stands (c .before .before .stepping .given .1)) (c .stored-so .ensures)
+    known-way kview same? (range s) stepping (storedAt s (a .byte) (a .cell .0)) (a .k) _ _ (ap stands (c .before .before .stepping .given .1)) (c .stored-so .ensures)
 
 returns-2 : tie.Need-returns-2
 returns-2 c = let a = c .before .before .before .before .before .before .before .args in
     let s = sizes (a .family) in
-    two-known s stepping (storedAt s (a .byte) (a .cell .0)) (a .k) _ _ _ refl (ap stands (c .before .before .before .before .before .enum-told .given .1)) (c .both .ensures) (way s (storedAt s (a .byte) (a .cell .0) 0) _ _ _ _ _ (c .before .before .before .before .stepping-by .ensures) (c .before .before .before .stored-so2 .ensures)) (way s (storedAt s (a .byte) (a .cell .0) 1) _ _ _ _ _ (c .before .before .stepping-by2 .ensures) (c .before .stored-so3 .ensures))
+    all-ways kview same? (range s) stepping (storedAt s (a .byte) (a .cell .0)) (a .k) 2 _ refl (ap stands (c .before .before .before .before .before .enum-told .given .1))
+    (next-way kview same? (range s) stepping (storedAt s (a .byte) (a .cell .0)) (a .k) 0 _ _ _ (c .both .ensures)
+    (first-way kview same? (range s) stepping (storedAt s (a .byte) (a .cell .0)) (a .k) _ (way kview same? (range s) (storedAt s (a .byte) (a .cell .0) 0) _ _ _ _ _ (c .before .before .before .before .stepping-by .ensures) (c .before .before .before .stored-so2 .ensures)))
+    (way kview same? (range s) (storedAt s (a .byte) (a .cell .0) 1) _ _ _ _ _ (c .before .before .stepping-by2 .ensures) (c .before .stored-so3 .ensures)))
 
 pub stored-at-spec : {M : Type 1} → statement M
 stored-at-spec =

@@ -1,12 +1,14 @@
 -- `segment_known::bytes::stored_by` meets its contract: a known address is a cell of the part, or none; an unknown one is dealt with elsewhere.
 -- Assumes nothing.
+use Rattle.segment_knowledge.specs.View.{kview}
 use Rattle.segment.specs.Family.{sizes}
 use Rattle.segment.specs.Move.{nothing, stored}
 use Rattle.segment.specs.Fact.{cell, address}
-use Rattle.segment_known.specs.Ways.{known-way}
+use Rattle.knowing.specs.Ways.{known-way}
 use mathlib.Core.Path.{refl, sym, ap}
-use Rattle.segment_known.specs.View.{points}
+use Rattle.segment_knowledge.specs.View.{points}
 use borrow.Author.Tests.{lt-ltb, le-ltb}
+use Rattle.segment.specs.Fact.{same?, range}
 use borrow.Author.Needs.{needs}
 use Rattle.segment_known.proofs.bytes.stored_by.Statement.{statement}
 use Rattle.segment_known.proofs.bytes.stored_by.Tie as tie
@@ -32,19 +34,19 @@ stored-somewhere-requires c κs = ap points (c .enum-told2 .given .1)
 returns : tie.Need-returns
 returns c = let a = c .before .before .before .before .before .before .before .before .args in
     let s = sizes (a .family) in
-    known-way s address (stored s (a .byte)) (a .k) _ _ (ap points (c .before .before .before .before .before .before .address .given .1))
+    known-way kview same? (range s) address (stored s (a .byte)) (a .k) _ _ (ap points (c .before .before .before .before .before .before .address .given .1))
     (simp (lt-ltb _ _ (rw (c .before .before .before .before .sizes .ensures) at (c .before .if1 .taken))) (c .stored-at .ensures))
 
 returns-2 : tie.Need-returns-2
 returns-2 c = let a = c .before .before .before .before .before .before .before .args in
     let s = sizes (a .family) in
-    known-way s address (stored s (a .byte)) (a .k) _ _ (ap points (c .before .before .before .before .before .address .given .1))
+    known-way kview same? (range s) address (stored s (a .byte)) (a .k) _ _ (ap points (c .before .before .before .before .before .address .given .1))
     (simp (le-ltb _ _ (rw (c .before .before .before .sizes .ensures) at (c .if1 .left))) (λ f. refl))
 
 returns-3 : tie.Need-returns-3
 returns-3 c = let a = c .before .before .args in
     let s = sizes (a .family) in
-    known-way s address (stored s (a .byte)) (a .k) _ _ (ap points (c .enum-told .given .1)) (λ f. refl)
+    known-way kview same? (range s) address (stored s (a .byte)) (a .k) _ _ (ap points (c .enum-told .given .1)) (λ f. refl)
 
 returns-4 : tie.Need-returns-4
 returns-4 c = search needs

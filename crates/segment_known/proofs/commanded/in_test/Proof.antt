@@ -2,8 +2,8 @@
 -- Assumes nothing.
 use mathlib.Core.Path.{refl, ap}
 use Rattle.segment.specs.Laws.{every}
-use Rattle.segment_known.specs.View.{coded}
-use Rattle.segment_known.specs.Laws.{getD-same}
+use Rattle.standing.specs.View.{coded}
+use Rattle.standing.specs.Codes.{getD-same}
 use Rattle.segment_known.proofs.commanded.in_test.Statement.{statement}
 use Rattle.segment_known.proofs.commanded.in_test.Tie as tie
 

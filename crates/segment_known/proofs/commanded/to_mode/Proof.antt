@@ -1,13 +1,16 @@
 -- `segment_known::commanded::to_mode` meets its contract: a known mode is the one named, or another; an unknown one may be either.
 -- Assumes nothing.
+use Rattle.segment_knowledge.specs.View.{kview}
 use Rattle.segment.specs.Family.{sizes}
 use Rattle.segment.specs.Move.{nothing, toMode}
 use mathlib.Core.Path.{ap}
-use Rattle.segment_known.specs.View.{stands}
+use Rattle.standing.specs.View.{stands}
 use Rattle.segment.specs.Laws.{every}
 use Rattle.segment.specs.Fact.{cell, address, dataMode, stepping, mode, dimming, display, led, key, switches, readCount, position}
 use borrow.Author.Tests.{eq-eqb, ne-eqb}
-use Rattle.segment_known.specs.Ways.{known-way, learnt, mode-unknown, top-room}
+use Rattle.knowing.specs.Ways.{known-way, learnt}
+use Rattle.segment_known.specs.Ways.{mode-unknown, top-room}
+use Rattle.segment.specs.Fact.{same?, range}
 use borrow.Author.Needs.{needs}
 use Rattle.segment_known.proofs.commanded.to_mode.Statement.{statement}
 use Rattle.segment_known.proofs.commanded.to_mode.Tie as tie
@@ -33,13 +36,13 @@ both-requires c κs = search needs
 returns : tie.Need-returns
 returns c = let a = c .before .before .before .before .before .before .before .before .args in
     let s = sizes (a .family) in
-    known-way s mode (toMode (a .code)) (a .k) _ _ (ap stands (c .before .before .before .old .given .1)) (simp (eq-eqb _ _ (c .before .if1 .taken)) (learnt (a .k) _ position 3 (c .at2 .ensures)))
+    known-way kview same? (range s) mode (toMode (a .code)) (a .k) _ _ (ap stands (c .before .before .before .old .given .1)) (simp (eq-eqb _ _ (c .before .if1 .taken)) (learnt kview same? (a .k) _ position 3 (c .at2 .ensures)))
 
 returns-2 : tie.Need-returns-2
 returns-2 c = let a = c .before .before .before .before .before .before .before .args in
     let s = sizes (a .family) in
     let e = c .before .before .before .before .at .ensures in
-    known-way s mode (toMode (a .code)) (a .k) _ _ (ap stands (c .before .before .old .given .1)) (simp (ne-eqb _ _ (c .if1 .left)) (every _ (λ i. e (cell i)) (e address) (e dataMode) (e stepping) (e mode) (e dimming) (e display) (e led) (λ i. e (key i)) (e switches) (e readCount) (e position)))
+    known-way kview same? (range s) mode (toMode (a .code)) (a .k) _ _ (ap stands (c .before .before .old .given .1)) (simp (ne-eqb _ _ (c .if1 .left)) (every _ (λ i. e (cell i)) (e address) (e dataMode) (e stepping) (e mode) (e dimming) (e display) (e led) (λ i. e (key i)) (e switches) (e readCount) (e position)))
 
 returns-3 : tie.Need-returns-3
 returns-3 c = let a = c .before .before .before .before .before .before .before .before .before .args in

@@ -1,12 +1,14 @@
 -- `segment_known::reads::byte_out` meets its contract: a known position goes its one way, an unknown one all four.
 -- Assumes nothing.
+use Rattle.segment_knowledge.specs.View.{kview}
 use Rattle.segment.specs.Family.{sizes}
 use Rattle.segment.specs.Move.{nothing, readOut, byteOut}
 use Rattle.segment.specs.Fact.{dataMode, position}
 use Rattle.rules.specs.Rule.{look}
 use mathlib.Core.Path.{refl, ap}
-use Rattle.segment_known.specs.View.{stands}
-use Rattle.segment_known.specs.Ways.{way, known-way, four-known}
+use Rattle.standing.specs.View.{stands}
+use Rattle.knowing.specs.Ways.{way, known-way, first-way, next-way, all-ways}
+use Rattle.segment.specs.Fact.{same?, range}
 use borrow.Author.Needs.{needs}
 use Rattle.segment_known.proofs.reads.byte_out.Statement.{statement}
 use Rattle.segment_known.proofs.reads.byte_out.Tie as tie
@@ -47,13 +49,19 @@ both-requires-3 c κs = search needs
 returns : tie.Need-returns
 returns c = let a = c .before .before .before .before .args in
     let s = sizes (a .family) in
-    known-way s position (byteOut) (a .k) _ _ (ap stands (c .before .before .position .given .1)) (c .out-at .ensures)
+    known-way kview same? (range s) position (byteOut) (a .k) _ _ (ap stands (c .before .before .position .given .1)) (c .out-at .ensures)
 
 returns-2 : tie.Need-returns-2
 returns-2 c = let a = c .before .before .before .before .before .before .before .before .before .before .args in
     let s = sizes (a .family) in
-    four-known s position byteOut (a .k) _ _ _ _ _ _ _ refl (ap stands (c .before .before .before .before .before .before .before .before .enum-told .given .1)) (c .both3 .ensures) (c .before .before .both2 .ensures) (c .before .before .before .before .before .both .ensures) (c .before .before .before .before .before .before .before .at .ensures) (c .before .before .before .before .before .before .at2 .ensures)
-    (way s (look dataMode readOut) _ _ _ _ _ (c .before .before .before .before .at3 .ensures) (c .before .before .before .open-out .ensures)) (c .before .at4 .ensures)
+    all-ways kview same? (range s) position byteOut (a .k) 4 _ refl (ap stands (c .before .before .before .before .before .before .before .before .enum-told .given .1))
+    (next-way kview same? (range s) position byteOut (a .k) 2 _ _ _ (c .both3 .ensures)
+    (next-way kview same? (range s) position byteOut (a .k) 1 _ _ _ (c .before .before .both2 .ensures)
+    (next-way kview same? (range s) position byteOut (a .k) 0 _ _ _ (c .before .before .before .before .before .both .ensures)
+    (first-way kview same? (range s) position byteOut (a .k) _ (c .before .before .before .before .before .before .before .at .ensures))
+    (c .before .before .before .before .before .before .at2 .ensures))
+    (way kview same? (range s) (look dataMode readOut) _ _ _ _ _ (c .before .before .before .before .at3 .ensures) (c .before .before .before .open-out .ensures)))
+    (c .before .at4 .ensures))
 
 pub byte-out-spec : {M : Type 1} → statement M
 byte-out-spec =

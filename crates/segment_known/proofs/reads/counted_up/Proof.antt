@@ -1,15 +1,18 @@
 -- `segment_known::reads::counted_up` meets its contract: one more, or 4 where it would pass 4; an unknown count stays unknown.
 -- Assumes nothing.
+use Rattle.segment_knowledge.specs.View.{kview}
 use Rattle.segment.specs.Family.{sizes}
 use Rattle.segment.specs.Move.{nothing, counted}
 use Rattle.segment.specs.Fact.{readCount}
 use mathlib.Core.Logic.{⊎-elim}
 use mathlib.Core.Path.{_≡_, refl, ap}
 use native.Mathlib.Omega.{arith}
-use Rattle.segment_known.specs.View.{stands}
+use Rattle.standing.specs.View.{stands}
 use Rattle.segment.specs.Laws.{every}
 use Prim.Native.Nat.{_+_, min}
-use Rattle.segment_known.specs.Ways.{known-way, count-unknown}
+use Rattle.knowing.specs.Ways.{known-way}
+use Rattle.segment_known.specs.Ways.{count-unknown}
+use Rattle.segment.specs.Fact.{same?, range}
 use borrow.Author.Needs.{needs}
 use Rattle.segment_known.proofs.reads.counted_up.Statement.{statement}
 use Rattle.segment_known.proofs.reads.counted_up.Tie as tie
@@ -28,7 +31,7 @@ returns c = let a = c .before .before .before .before .before .before .args in
     let s = sizes (a .family) in
     let n = c .before .before .before .before .count .given .0 in
     let e : c .before .before .if1 .more ≡ min (n .0 + 1) 4 = ⊎-elim (λ w. omega arith) (λ w. omega arith) (c .before .before .if1 .came) in
-    known-way s readCount counted (a .k) _ _ (ap stands (c .before .before .before .before .count .given .1)) (rw e (every _ (λ i. refl) refl refl refl refl refl refl refl (λ i. refl) refl refl refl))
+    known-way kview same? (range s) readCount counted (a .k) _ _ (ap stands (c .before .before .before .before .count .given .1)) (rw e (every _ (λ i. refl) refl refl refl refl refl refl refl (λ i. refl) refl refl refl))
 
 returns-2 : tie.Need-returns-2
 returns-2 c = let a = c .before .before .args in

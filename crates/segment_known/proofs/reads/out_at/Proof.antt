@@ -1,11 +1,14 @@
 -- `segment_known::reads::out_at` meets its contract: each arm knows the position.
 -- Assumes nothing.
+use Rattle.segment_knowledge.specs.View.{kview}
 use mathlib.Core.Path.{refl}
 use Rattle.segment.specs.Family.{sizes}
 use Rattle.segment.specs.Move.{nothing, readOut, byteOut}
 use Rattle.segment.specs.Fact.{dataMode, position}
 use Rattle.rules.specs.Rule.{look}
-use Rattle.segment_known.specs.Ways.{as-rule, other-out}
+use Rattle.knowing.specs.Ways.{as-rule}
+use Rattle.segment_known.specs.Ways.{other-out}
+use Rattle.segment.specs.Fact.{same?, range}
 use borrow.Author.Needs.{needs}
 use Rattle.segment_known.proofs.reads.out_at.Statement.{statement}
 use Rattle.segment_known.proofs.reads.out_at.Tie as tie
@@ -19,7 +22,7 @@ returns c = rw (c .before .match .keys1) (c .open-out .ensures)
 returns-2 : tie.Need-returns-2
 returns-2 c = let a = c .before .args in
     let s = sizes (a .family) in
-    as-rule s (byteOut (a .place)) nothing (a .k) (a .k) (other-out (look dataMode readOut) (a .place) (c .match .rest .1)) (λ f. refl)
+    as-rule kview same? (range s) (byteOut (a .place)) nothing (a .k) (a .k) (other-out (look dataMode readOut) (a .place) (c .match .rest .1)) (λ f. refl)
 
 pub out-at-spec : {M : Type 1} → statement M
 out-at-spec = tie.close (tie.spec open-out-requires returns returns-2)

@@ -1,0 +1,14 @@
+-- `segment_knowledge::knowledge::nothing_known` meets its contract: every code is 256, and no single fact is known.
+-- Assumes nothing.
+use mathlib.Core.Path.{refl, ap}
+use Rattle.segment.specs.Laws.{every}
+use Rattle.standing.specs.View.{coded}
+use Rattle.standing.specs.Codes.{getD-same}
+use Rattle.segment_knowledge.proofs.knowledge.nothing_known.Statement.{statement}
+use Rattle.segment_knowledge.proofs.knowledge.nothing_known.Tie as tie
+
+returns : tie.Need-returns
+returns c = every _ (λ i. ap coded (getD-same 36 i 256)) refl refl refl refl refl refl refl (λ i. ap coded (getD-same 4 i 256)) refl refl refl
+
+pub nothing-known-spec : {M : Type 1} → statement M
+nothing-known-spec = tie.close (tie.spec returns)

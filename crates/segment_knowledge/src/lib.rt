@@ -1,0 +1,24 @@
+// What is known of a PT6312 or PT6315 panel, as a value, and what two such knowledges have in common.
+mod join;
+mod knowledge;
+mod numbers;
+
+pub use join::both;
+pub use knowledge::Knowledge;
+pub use knowledge::Pointing;
+pub use knowledge::at;
+pub use knowledge::nothing_known;
+pub use knowledge::stepping_by;
+pub use knowledge::with_data;
+pub use numbers::FIRST;
+pub use numbers::FIXED;
+pub use numbers::IDLE;
+pub use numbers::IGNORING;
+pub use numbers::INCREMENT;
+pub use numbers::OFF;
+pub use numbers::ON;
+pub use numbers::OPEN;
+pub use numbers::READ_KEYS;
+pub use numbers::READ_SWITCHES;
+pub use numbers::WRITE_DISPLAY;
+pub use numbers::WRITE_LED;

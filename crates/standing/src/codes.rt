@@ -1,0 +1,63 @@
+// Rows of codes: 256 is unknown, and any other code is known to be that number.
+ghost use mathlib.Core.Path.{_≡_};
+ghost use Prim.Native.Nat.{ℕ, _+_, _*_, _<_, _≤_};
+ghost use lib.ListN.{length, getD};
+ghost use Rattle.knowing.specs.Standing.{Within};
+ghost use Rattle.standing.specs.View.{coded, Tells};
+ghost use Rattle.standing.specs.Codes.{bothCodes, Joined, Met};
+
+fn both_codes(a: u16, b: u16) -> u16
+    ensures { λ r. ⌜ r ≡ bothCodes a b ⌝ }
+{
+    if a == b { a } else { 256 }
+}
+
+// The first `count` codes become what both rows have in common.
+pub fn join_first(a: &mut [u16], b: &[u16], count: usize)
+    requires { ⌜ (count ≤ length (now a)) × (count ≤ length (now b)) ⌝ }
+    ensures { λ r. ⌜ Joined (now (a .entry)) (now (b .entry)) count (now (a .exit)) ⌝ }
+{
+    let mut i = 0;
+    while i < count {
+        a[i] = both_codes(a[i], b[i]);
+        i += 1;
+    }
+}
+
+// A byte may have gone to any of these codes: `count` of them, from `from` on, one in `by`. Each keeps what it has in common with the byte.
+pub fn meet(codes: &mut [u16], from: usize, by: usize, count: usize, byte: u8)
+    requires { ⌜ (0 < by) × ((i : ℕ) → i < count → from + by * i < length (now codes)) ⌝ }
+    ensures { λ r. ⌜ Met (now (codes .entry)) from by byte count (now (codes .exit)) ⌝ }
+{
+    let mut i = 0;
+    while i < count {
+        let at = from + by * i;
+        codes[at] = both_codes(codes[at], byte as u16);
+        i += 1;
+    }
+}
+
+fn code_within(code: u16, limit: u16) -> bool
+    ensures { λ r. ⌜ Tells r (Within limit (coded code)) ⌝ }
+{
+    if code == 256 {
+        return true;
+    }
+    code < limit
+}
+
+// What is known of the first `count` codes is below the limit.
+pub fn all_within(codes: &[u16], count: usize, limit: u16) -> bool
+    requires { ⌜ count ≤ length (now codes) ⌝ }
+    ensures { λ r. ⌜ Tells r ((i : ℕ) → i < count → Within limit (coded (getD (now (codes .entry)) i 256))) ⌝ }
+{
+    let mut i = 0;
+    while i < count {
+        let code = codes[i];
+        if !code_within(code, limit) {
+            return false;
+        }
+        i += 1;
+    }
+    true
+}

@@ -1,0 +1,10 @@
+// Known or unknown, as values: a single fact, and a row of numbers with a code for unknown. Every part's knowledge is made of these.
+mod codes;
+mod standing;
+
+pub use codes::all_within;
+pub use codes::join_first;
+pub use codes::meet;
+pub use standing::Standing;
+pub use standing::both_standing;
+pub use standing::within;

@@ -1,0 +1,40 @@
+// A single fact.
+ghost use mathlib.Core.Path.{_≡_};
+ghost use Rattle.knowing.specs.Standing.{Within};
+ghost use Rattle.knowing.specs.Know.{join};
+ghost use Rattle.standing.specs.View.{stands, Tells};
+
+// Known, with its value's number, or unknown.
+pub enum Standing {
+    Known(u8),
+    Unknown,
+}
+
+// What two standings have in common.
+pub fn both_standing(a: Standing, b: Standing) -> Standing
+    ensures { λ r. ⌜ stands r ≡ join (stands a) (stands b) ⌝ }
+{
+    match a {
+        Standing::Known(v) => match b {
+            Standing::Known(w) => {
+                if v == w {
+                    Standing::Known(v)
+                } else {
+                    Standing::Unknown
+                }
+            }
+            Standing::Unknown => Standing::Unknown,
+        },
+        Standing::Unknown => Standing::Unknown,
+    }
+}
+
+// What is known is below the limit.
+pub fn within(s: Standing, limit: u8) -> bool
+    ensures { λ r. ⌜ Tells r (Within limit (stands s)) ⌝ }
+{
+    match s {
+        Standing::Known(v) => v < limit,
+        Standing::Unknown => true,
+    }
+}
