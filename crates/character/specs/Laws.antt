@@ -28,13 +28,13 @@ every P d g a x y z k p u n l q digits = n
 every P d g a x y z k p u n l q lights = l
 every P d g a x y z k p u n l q position = q
 
-dcram-apart : (i j : ℕ) → dcram i ≡ dcram j → i ≡ j
+pub dcram-apart : (i j : ℕ) → dcram i ≡ dcram j → i ≡ j
 dcram-apart i j e = cc
 
-cgram-apart : (i j : ℕ) → cgram i ≡ cgram j → i ≡ j
+pub cgram-apart : (i j : ℕ) → cgram i ≡ cgram j → i ≡ j
 cgram-apart i j e = cc
 
-adram-apart : (i j : ℕ) → adram i ≡ adram j → i ≡ j
+pub adram-apart : (i j : ℕ) → adram i ≡ adram j → i ≡ j
 adram-apart i j e = cc
 
 -- Each RAM with one of its cells set, as the rule has it.

@@ -6,3 +6,4 @@ pub mod Exact
 pub mod Moves
 pub mod Look
 pub mod Ways
+pub mod Changed

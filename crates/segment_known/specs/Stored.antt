@@ -12,34 +12,13 @@ use Rattle.knowing.specs.Standing.{Standing, known, unknown}
 use Rattle.knowing.specs.Know.{lifted, learn, join, common, know}
 use Rattle.knowing.specs.Join.{not-known, known-one, same-standing, join-swap, common-each, common-same, common-two, common-apart}
 use Rattle.knowing.specs.Look.{look-known, look-unknown}
+use Rattle.knowing.specs.Changed.{set-same, set-other, learn-other}
 use Rattle.segment.specs.declared.chip.Sizes.{Sizes}
 use Rattle.segment.specs.declared.chip.Pointer.the-variants.{At, Invalid}
 use Rattle.segment.specs.Value.{pointer}
 use Rattle.segment.specs.Fact.{Fact, same?, range, cell, address, dataMode, stepping, mode, dimming, display, led, key, switches, readCount, position}
 use Rattle.segment.specs.Laws.{cells-apart}
 use Rattle.segment.specs.Move.{sets, after, storedAt, stored}
-
--- A fact that is not the one set.
-other-set : (l : Fact → Standing) (g : Fact) (v : ℕ) (φ : Fact → Form Fact) (f : Fact) → ¬ (f ≡ g) → lifted l (sets g v φ f) ≡ lifted l (φ f)
-other-set l g v φ f n = go (same? f g)
-  where
-    go : (d : Dec (f ≡ g)) → lifted l (elim d [ yes _ ↦ value v | no _ ↦ φ f ]) ≡ lifted l (φ f)
-    go (yes p) = absurd (n p)
-    go (no _) = refl
-
-set-same : (l : Fact → Standing) (g : Fact) (v : ℕ) (φ : Fact → Form Fact) → lifted l (sets g v φ g) ≡ known v
-set-same l g v φ = go (same? g g)
-  where
-    go : (d : Dec (g ≡ g)) → lifted l (elim d [ yes _ ↦ value v | no _ ↦ φ g ]) ≡ known v
-    go (yes _) = refl
-    go (no n) = absurd (n refl)
-
-other-learn : (l : Fact → Standing) (g : Fact) (v : ℕ) (f : Fact) → ¬ (f ≡ g) → learn same? g v l f ≡ l f
-other-learn l g v f n = go (same? f g)
-  where
-    go : (d : Dec (f ≡ g)) → _≡_ {A = Standing} (elim d [ yes _ ↦ known v | no _ ↦ l f ]) (l f)
-    go (yes p) = absurd (n p)
-    go (no _) = refl
 
 -- Facts of different names are different.
 unfoldable pub tag : Fact → ℕ
@@ -65,8 +44,8 @@ not-address j e =
 module _ (s : Sizes) (b i : ℕ) where
   -- A fact other than the address and the cell.
   stays : (l : Fact → Standing) (f : Fact) → ¬ (f ≡ address) → ¬ (f ≡ cell i) → (v : ℕ) → know same? (range s) (storedAt s b i v) l f ≡ l f
-  stays l f n m zero = other-set l address (pointer (after s i)) (sets (cell i) b keep) f n ∙ other-set l (cell i) b keep f m
-  stays l f n m (suc v) = other-set l (cell i) b keep f m
+  stays l f n m zero = set-other same? l address (pointer (after s i)) (sets (cell i) b keep) f n ∙ set-other same? l (cell i) b keep f m
+  stays l f n m (suc v) = set-other same? l (cell i) b keep f m
 
   pub rests : (l : Fact → Standing) (f : Fact) → ¬ (f ≡ address) → ¬ (f ≡ cell i) → know same? (range s) (look stepping (storedAt s b i)) l f ≡ l f
   rests l f n m = go (l stepping) refl
@@ -75,15 +54,15 @@ module _ (s : Sizes) (b i : ℕ) where
       each (yes p) u =
           subst⁻¹ (λ (x : Fact). common 2 (λ (w : ℕ). know same? (range s) (storedAt s b i w) (learn same? stepping w l) x) ≡ l x) p
           (common-apart 2 _ 0 1 0 1 (omega arith) (omega arith) (λ e. omega arith) refl refl ∙ sym u)
-      each (no p) u = common-same 2 _ (l f) (omega arith) (λ w h. stays (learn same? stepping w l) f n m w ∙ other-learn l stepping w f p)
+      each (no p) u = common-same 2 _ (l f) (omega arith) (λ w h. stays (learn same? stepping w l) f n m w ∙ learn-other same? l stepping w f p)
 
       go : (t : Standing) → l stepping ≡ t → know same? (range s) (look stepping (storedAt s b i)) l f ≡ l f
       go (known v) e = sym (look-known same? (range s) stepping (storedAt s b i) l f v _ e refl) ∙ stays l f n m v
       go unknown e = sym (look-unknown same? (range s) stepping (storedAt s b i) l f _ e refl) ∙ each (same? f stepping) e
 
   takes : (l : Fact → Standing) (v : ℕ) → know same? (range s) (storedAt s b i v) l (cell i) ≡ known b
-  takes l zero = set-same l (cell i) b keep
-  takes l (suc v) = set-same l (cell i) b keep
+  takes l zero = set-same same? l (cell i) b keep
+  takes l (suc v) = set-same same? l (cell i) b keep
 
   -- The cell itself.
   pub holds : (l : Fact → Standing) → know same? (range s) (look stepping (storedAt s b i)) l (cell i) ≡ known b
@@ -127,8 +106,8 @@ module _ (s : Sizes) (b : ℕ) (k : Fact → Standing) where
   rest-stay f n m = sym (common-same (suc (s .cells)) (ways f) (k f) (omega arith) each)
     where
       each : (w : ℕ) → w < suc (s .cells) → ways f w ≡ k f
-      each zero h = other-learn k address 0 f n
-      each (suc i) h = at-cell f i (k f) (omega arith) (rests s b i (learn same? address (suc i) k) f n (m i (omega arith)) ∙ other-learn k address (suc i) f n)
+      each zero h = learn-other same? k address 0 f n
+      each (suc i) h = at-cell f i (k f) (omega arith) (rests s b i (learn same? address (suc i) k) f n (m i (omega arith)) ∙ learn-other same? k address (suc i) f n)
 
   -- Any fact but the cells and the address.
   pub plain-stay : (f : Fact) → 2 ≤ tag f → k f ≡ common (suc (s .cells)) (ways f)

@@ -1,0 +1,19 @@
+// What is known of a PT6302 panel, as a value, and what two such knowledges have in common.
+mod join;
+mod knowledge;
+mod numbers;
+
+pub use join::both;
+pub use knowledge::Knowledge;
+pub use knowledge::Pointing;
+pub use knowledge::at;
+pub use knowledge::nothing_known;
+pub use numbers::ADRAM;
+pub use numbers::CGRAM;
+pub use numbers::DCRAM;
+pub use numbers::FIRST;
+pub use numbers::IDLE;
+pub use numbers::IGNORING;
+pub use numbers::NORMAL;
+pub use numbers::OFF;
+pub use numbers::ON;

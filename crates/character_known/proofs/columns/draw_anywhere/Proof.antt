@@ -1,0 +1,43 @@
+-- `character_known::columns::draw_anywhere` meets its contract: a known column may be in any character, an unknown one in any place.
+-- Assumes nothing.
+use native.Mathlib.Omega.{arith}
+use mathlib.Core.Path.{refl, ap}
+use Rattle.standing.specs.View.{stands}
+use Rattle.character_knowledge.specs.View.{kview, points}
+use Rattle.character.specs.Laws.{every}
+use Rattle.character_known.specs.Columns.{place-open}
+use borrow.Author.Needs.{needs}
+use Rattle.character_known.proofs.columns.draw_anywhere.Statement.{statement}
+use Rattle.character_known.proofs.columns.draw_anywhere.Tie as tie
+
+enum-known-column : tie.Need-enum-known-column
+enum-known-column c = search needs
+
+draw-column-requires : tie.Need-draw-column-requires
+draw-column-requires c κs = (c .before .before .before .pre, ap stands (c .before .column .given .1))
+
+enum-told : tie.Need-enum-told
+enum-told c = search needs
+
+forty-meet-requires : tie.Need-forty-meet-requires
+forty-meet-requires c κs = (omega arith, λ i h. omega arith)
+
+returns : tie.Need-returns
+returns c = search needs
+
+returns-2 : tie.Need-returns-2
+returns-2 c = let a = c .before .before .before .before .before .before .args in
+    let u = ap stands (c .before .before .before .before .enum-told .given .1) in
+    place-open (a .k) _ (a .byte) (every _ (λ i n. refl) (λ i n. absurd (n refl)) (λ i n. refl) (λ n. refl) (λ n. absurd (n refl)) (λ n. refl) (λ n. absurd (n refl)) (λ n. refl) (λ n. refl) (λ n. refl) (λ n. refl) (λ n. refl))
+    (c .before .before .before .before .before .before .pre) u (c .before .before .forty-meet .ensures) (c .before .before .before .before .before .before .pre) u
+
+pub draw-anywhere-spec : {M : Type 1} → statement M
+draw-anywhere-spec =
+    tie.close
+    (tie.spec
+    enum-known-column
+    draw-column-requires
+    enum-told
+    forty-meet-requires
+    returns
+    returns-2)

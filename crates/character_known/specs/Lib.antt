@@ -1,0 +1,5 @@
+pub mod Row
+pub mod Cells
+pub mod Drawn
+pub mod Columns
+pub mod Position
