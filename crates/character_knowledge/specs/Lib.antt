@@ -1,2 +1,3 @@
 pub mod View
 pub mod Both
+pub mod Ranges

@@ -29,4 +29,4 @@ kview k position = stands (k .position)
 
 -- The knowledge r is what the rule makes of k, fact by fact.
 abbrev pub Knows : Rule Fact Fact → Knowledge → Knowledge → Type 0
-Knows = Ways.Knows kview same? range
+Knows = Ways.Knows kview kview same? range

@@ -2,6 +2,7 @@
 mod join;
 mod knowledge;
 mod numbers;
+mod ranges;
 
 pub use join::both;
 pub use knowledge::Knowledge;
@@ -17,3 +18,4 @@ pub use numbers::IGNORING;
 pub use numbers::NORMAL;
 pub use numbers::OFF;
 pub use numbers::ON;
+pub use ranges::sound;

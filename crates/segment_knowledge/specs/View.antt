@@ -32,4 +32,4 @@ kview k position = stands (k .position)
 
 -- The knowledge r is what the rule makes of k, fact by fact.
 abbrev pub Knows : Sizes → Rule Fact Fact → Knowledge → Knowledge → Type 0
-Knows s = Ways.Knows kview same? (range s)
+Knows s = Ways.Knows kview kview same? (range s)

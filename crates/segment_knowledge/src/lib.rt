@@ -2,6 +2,7 @@
 mod join;
 mod knowledge;
 mod numbers;
+mod ranges;
 
 pub use join::both;
 pub use knowledge::Knowledge;
@@ -22,3 +23,4 @@ pub use numbers::READ_KEYS;
 pub use numbers::READ_SWITCHES;
 pub use numbers::WRITE_DISPLAY;
 pub use numbers::WRITE_LED;
+pub use ranges::sound;

@@ -109,7 +109,7 @@ mode-small s b m e = subst⁻¹ (λ (c : Command). codeOf c ≤ s .top) e (small
 
 -- An unknown mode: it may be the one that the byte names, and then only the position changes, or another, and then the display goes off too.
 pub mode-unknown : (s : Sizes) (k r a b : Knowledge) (m : ℕ) → m ≤ s .top → 1 ≤ s .top → kview k mode ≡ Of.unknown → Joins kview a b r
-    → Way kview same? (range s) (gives (then Ignoring)) k mode m a → Becomes kview (sets mode m (sets display (shows Off) (then Ignoring))) k b → Knows s (look mode (toMode m)) k r
+    → Way kview kview same? (range s) (gives (then Ignoring)) k mode m a → Becomes kview (sets mode m (sets display (shows Off) (then Ignoring))) k b → Knows s (look mode (toMode m)) k r
 mode-unknown s k r a b m small room u e p q f =
     look-unknown same? (range s) mode (toMode m) (kview k) f (kview r f) u
     (e f ∙ sym (by (ℕ-discrete m 0)))

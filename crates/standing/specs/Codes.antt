@@ -166,7 +166,38 @@ all-more l n limit all h w i o = go (ℕ-discrete i n)
 -- One code that is not within the limit is enough.
 pub one-beyond : (l : List ℕ) (count n limit : ℕ) (b : Bool) → Tells b (Within limit (coded (getD l n 0))) → b ≡ false → n < count → n < length l
     → Tells false ((i : ℕ) → i < count → Within limit (coded (getD l i 256)))
-one-beyond l count n limit b t e h o = (
-  λ z. absurd (true≢false (sym z)),
-  λ all. absurd (true≢false (sym (t .1 (rw (default-free l n 0 256 o) (all n h))) ∙ e)),
-)
+one-beyond l count n limit b t e h o = record {
+  so = λ z. absurd (true≢false (sym z));
+  back = λ all. absurd (true≢false (sym (t .back (rw (default-free l n 0 256 o) (all n h))) ∙ e));
+}
+
+-- What is known of the first n codes is below the limit.
+abbrev pub RowSound : List ℕ → ℕ → ℕ → Type 0
+RowSound l n limit = (i : ℕ) → i < n → Within limit (coded (getD l i 256))
+
+-- The codes are numbers of two bytes. This holds of every row that code hands over.
+abbrev pub Small : List ℕ → Type 0
+Small l = (i : ℕ) → getD l i 256 < 65536
+
+-- Where the row ends, nothing is known.
+pub whole-row : (l : List ℕ) (n limit : ℕ) → length l ≡ n → RowSound l n limit → (i : ℕ) → Within limit (coded (getD l i 256))
+whole-row l n limit e h i = go (decLt i n)
+  where
+    go : Dec (i < n) → Within limit (coded (getD l i 256))
+    go (yes p) = h i p
+    go (no p) =
+        let z : getD l i 256 ≡ 256 = List·getD-eq-default l 256 (omega arith) in
+        rw z tt
+
+-- A number of two bytes is within what a part lacks.
+pub small-within : (a n : ℕ) → a < n → Within n (coded a)
+small-within a n h = go (eqb a 256)
+  where
+    go : (t : Bool) → Within n (whether t unknown (known a))
+    go true = tt
+    go false = h
+
+pub small : (l : List ℕ) → ((i : ℕ) → getD l i 0 < 65536) → Small l
+small [] h i = omega arith
+small (x ∷ l) h zero = h zero
+small (x ∷ l) h (suc i) = small l (λ j. h (suc j)) i

@@ -1,7 +1,7 @@
 -- How a single fact and a code are read as known or unknown.
 use Prim.Native.Nat.{ℕ}
-use mathlib.Core.Path.{_≡_}
-use mathlib.Core.Bool.{Bool, true}
+use mathlib.Core.Path.{_≡_, refl, sym, subst⁻¹}
+use mathlib.Core.Bool.{Bool, true, false, _&&_, true≢false}
 use lib.Dec.{eqb}
 use Rattle.rules.specs.Choice.{whether}
 use Rattle.knowing.specs.Standing as Of
@@ -17,5 +17,28 @@ abbrev pub coded : ℕ → Of.Standing
 coded n = whether (eqb n 256) Of.unknown (Of.known n)
 
 -- A test is true exactly where P holds.
-abbrev pub Tells : Bool → Type 0 → Type 0
-Tells b P = (b ≡ true → P) × (P → b ≡ true)
+pub record Tells (b : Bool) (P : Type 0) : Type 0 where
+  pub so : b ≡ true → P
+  pub back : P → b ≡ true
+
+-- Two tests together.
+pub both-tell : {a b r : Bool} {P Q : Type 0} → r ≡ (a && b) → Tells a P → Tells b Q → Tells r (P × Q)
+both-tell {a} {b} {r} {P} {Q} e p q = subst⁻¹ (λ (t : Bool). Tells t (P × Q)) e (go a p)
+  where
+    go : (t : Bool) → Tells t P → Tells (t && b) (P × Q)
+    go true u = record { so = λ h. (u .so refl, q .so h); back = λ h. q .back (h .1) }
+    go false u = record { so = λ h. absurd (true≢false (sym h)); back = λ h. u .back (h .0) }
+
+-- What a test tells, in other words.
+pub tells-as : {b : Bool} {P Q : Type 0} → (P → Q) → (Q → P) → Tells b P → Tells b Q
+tells-as to from t = record { so = λ e. to (t .so e); back = λ q. t .back (from q) }
+
+-- Two tests that tell the same are one.
+pub one-test : {a b : Bool} {P : Type 0} → Tells a P → Tells b P → a ≡ b
+one-test {a} {b} {P} = go a b
+  where
+    go : (x y : Bool) → Tells x P → Tells y P → x ≡ y
+    go true true s t = refl
+    go true false s t = sym (t .back (s .so refl))
+    go false true s t = s .back (t .so refl)
+    go false false s t = refl

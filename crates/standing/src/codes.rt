@@ -1,10 +1,10 @@
 // Rows of codes: 256 is unknown, and any other code is known to be that number.
 ghost use mathlib.Core.Path.{_≡_};
 ghost use Prim.Native.Nat.{ℕ, _+_, _*_, _<_, _≤_};
-ghost use lib.ListN.{length, getD};
+ghost use lib.ListN.{length};
 ghost use Rattle.knowing.specs.Standing.{Within};
 ghost use Rattle.standing.specs.View.{coded, Tells};
-ghost use Rattle.standing.specs.Codes.{bothCodes, Joined, Met};
+ghost use Rattle.standing.specs.Codes.{bothCodes, Joined, Met, RowSound, Small};
 
 fn both_codes(a: u16, b: u16) -> u16
     ensures { λ r. ⌜ r ≡ bothCodes a b ⌝ }
@@ -46,10 +46,10 @@ fn code_within(code: u16, limit: u16) -> bool
     code < limit
 }
 
-// What is known of the first `count` codes is below the limit.
+// What is known of the first `count` codes is below the limit. Whatever they are, they are numbers of two bytes.
 pub fn all_within(codes: &[u16], count: usize, limit: u16) -> bool
     requires { ⌜ count ≤ length (now codes) ⌝ }
-    ensures { λ r. ⌜ Tells r ((i : ℕ) → i < count → Within limit (coded (getD (now (codes .entry)) i 256))) ⌝ }
+    ensures { λ r. ⌜ (Tells r (RowSound (now (codes .entry)) count limit)) × (Small (now (codes .entry))) ⌝ }
 {
     let mut i = 0;
     while i < count {

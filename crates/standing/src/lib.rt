@@ -6,5 +6,6 @@ pub use codes::all_within;
 pub use codes::join_first;
 pub use codes::meet;
 pub use standing::Standing;
+pub use standing::both_hold;
 pub use standing::both_standing;
 pub use standing::within;

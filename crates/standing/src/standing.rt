@@ -1,5 +1,6 @@
 // A single fact.
 ghost use mathlib.Core.Path.{_≡_};
+ghost use mathlib.Core.Bool.{_&&_};
 ghost use Rattle.knowing.specs.Standing.{Within};
 ghost use Rattle.knowing.specs.Know.{join};
 ghost use Rattle.standing.specs.View.{stands, Tells};
@@ -29,12 +30,19 @@ pub fn both_standing(a: Standing, b: Standing) -> Standing
     }
 }
 
-// What is known is below the limit.
+// What is known is below the limit. Whatever it is, it is a byte.
 pub fn within(s: Standing, limit: u8) -> bool
-    ensures { λ r. ⌜ Tells r (Within limit (stands s)) ⌝ }
+    ensures { λ r. ⌜ (Tells r (Within limit (stands s))) × (Within 256 (stands s)) ⌝ }
 {
     match s {
         Standing::Known(v) => v < limit,
         Standing::Unknown => true,
     }
+}
+
+// Both tests hold.
+pub fn both_hold(a: bool, b: bool) -> bool
+    ensures { λ r. ⌜ r ≡ (a && b) ⌝ }
+{
+    if a { b } else { false }
 }

@@ -24,7 +24,7 @@ in-anywhere-requires c κs = ap stands (c .enum-told .given .1)
 
 returns : tie.Need-returns
 returns c = let a = c .before .before .before .before .args in
-    known-way kview same? range position (byteIn (a .byte)) (a .k) _ _ (ap stands (c .before .before .position .given .1)) (c .in-at .ensures)
+    known-way kview kview same? range position (byteIn (a .byte)) (a .k) _ _ (ap stands (c .before .before .position .given .1)) (c .in-at .ensures)
 
 returns-2 : tie.Need-returns-2
 returns-2 c = search needs

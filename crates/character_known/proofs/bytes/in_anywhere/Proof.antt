@@ -58,17 +58,17 @@ both-requires-5 c κs = search needs
 
 returns : tie.Need-returns
 returns c = let a = c .before .before .before .before .before .before .before .before .before .before .before .before .before .before .before .args in
-    all-ways kview same? range position (byteIn (a .byte)) (a .k) 6 _ refl (c .before .before .before .before .before .before .before .before .before .before .before .before .before .before .before .pre)
-    (next-way kview same? range position (byteIn (a .byte)) (a .k) 4 _ _ _ (c .both5 .ensures)
-    (next-way kview same? range position (byteIn (a .byte)) (a .k) 3 _ _ _ (c .before .before .both4 .ensures)
-    (next-way kview same? range position (byteIn (a .byte)) (a .k) 2 _ _ _ (c .before .before .before .both3 .ensures)
-    (next-way kview same? range position (byteIn (a .byte)) (a .k) 1 _ _ _ (c .before .before .before .before .both2 .ensures)
-    (next-way kview same? range position (byteIn (a .byte)) (a .k) 0 _ _ _ (c .before .before .before .before .before .both .ensures)
-    (first-way kview same? range position (byteIn (a .byte)) (a .k) _ (c .before .before .before .before .before .before .at5 .ensures))
-    (way kview same? range (gives (commanded (commandOf (a .byte)))) _ _ _ _ _ (c .before .before .before .before .before .before .before .before .before .before .before .before .before .before .at .ensures) (c .before .before .before .before .before .before .before .before .before .before .before .before .before .first-in .ensures)))
-    (way kview same? range (look dcramAt (shown (a .byte))) _ _ _ _ _ (c .before .before .before .before .before .before .before .before .before .before .before .before .at2 .ensures) (c .before .before .before .before .before .before .before .before .before .before .before .to-show .ensures)))
-    (way kview same? range (look cgramAt (λ x. look column (drawn (a .byte) x))) _ _ _ _ _ (c .before .before .before .before .before .before .before .before .before .before .at3 .ensures) (c .before .before .before .before .before .before .before .before .before .to-draw .ensures)))
-    (way kview same? range (look adramAt (marked (a .byte))) _ _ _ _ _ (c .before .before .before .before .before .before .before .before .at4 .ensures) (c .before .before .before .before .before .before .before .to-mark .ensures)))
+    all-ways kview kview same? range position (byteIn (a .byte)) (a .k) 6 _ refl (c .before .before .before .before .before .before .before .before .before .before .before .before .before .before .before .pre)
+    (next-way kview kview same? range position (byteIn (a .byte)) (a .k) 4 _ _ _ (c .both5 .ensures)
+    (next-way kview kview same? range position (byteIn (a .byte)) (a .k) 3 _ _ _ (c .before .before .both4 .ensures)
+    (next-way kview kview same? range position (byteIn (a .byte)) (a .k) 2 _ _ _ (c .before .before .before .both3 .ensures)
+    (next-way kview kview same? range position (byteIn (a .byte)) (a .k) 1 _ _ _ (c .before .before .before .before .both2 .ensures)
+    (next-way kview kview same? range position (byteIn (a .byte)) (a .k) 0 _ _ _ (c .before .before .before .before .before .both .ensures)
+    (first-way kview kview same? range position (byteIn (a .byte)) (a .k) _ (c .before .before .before .before .before .before .at5 .ensures))
+    (way kview kview same? range (gives (commanded (commandOf (a .byte)))) _ _ _ _ _ (c .before .before .before .before .before .before .before .before .before .before .before .before .before .before .at .ensures) (c .before .before .before .before .before .before .before .before .before .before .before .before .before .first-in .ensures)))
+    (way kview kview same? range (look dcramAt (shown (a .byte))) _ _ _ _ _ (c .before .before .before .before .before .before .before .before .before .before .before .before .at2 .ensures) (c .before .before .before .before .before .before .before .before .before .before .before .to-show .ensures)))
+    (way kview kview same? range (look cgramAt (λ x. look column (drawn (a .byte) x))) _ _ _ _ _ (c .before .before .before .before .before .before .before .before .before .before .at3 .ensures) (c .before .before .before .before .before .before .before .before .before .to-draw .ensures)))
+    (way kview kview same? range (look adramAt (marked (a .byte))) _ _ _ _ _ (c .before .before .before .before .before .before .before .before .at4 .ensures) (c .before .before .before .before .before .before .before .to-mark .ensures)))
     (c .before .at6 .ensures))
 
 pub in-anywhere-spec : {M : Type 1} → statement M

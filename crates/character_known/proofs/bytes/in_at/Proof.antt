@@ -36,7 +36,7 @@ returns-4 c = rw (c .before .match .keys4) (c .to-mark .ensures)
 
 returns-5 : tie.Need-returns-5
 returns-5 c = let a = c .before .args in
-    as-rule kview same? range (byteIn (a .byte) (a .place)) nothing (a .k) (a .k) (other-place _ _ _ _ (a .place) (c .match .rest .0 .0 .0 .1) (c .match .rest .0 .0 .1) (c .match .rest .0 .1) (c .match .rest .1)) (λ f. refl)
+    as-rule kview kview same? range (byteIn (a .byte) (a .place)) nothing (a .k) (a .k) (other-place _ _ _ _ (a .place) (c .match .rest .0 .0 .0 .1) (c .match .rest .0 .0 .1) (c .match .rest .0 .1) (c .match .rest .1)) (λ f. refl)
 
 pub in-at-spec : {M : Type 1} → statement M
 in-at-spec =

@@ -26,7 +26,7 @@ sixteen-meet-requires c κs = search needs
 
 returns : tie.Need-returns
 returns c = let a = c .before .before .before .before .args in
-    known-way kview same? range adramAt (marked (a .byte)) (a .k) _ _ (ap points (c .before .before .to .given .1)) (c .mark-at .ensures)
+    known-way kview kview same? range adramAt (marked (a .byte)) (a .k) _ _ (ap points (c .before .before .to .given .1)) (c .mark-at .ensures)
 
 returns-2 : tie.Need-returns-2
 returns-2 c = let a = c .before .before .before .before .before .before .args in

@@ -30,7 +30,7 @@ forty-meet-requires c κs = (omega arith, λ i h. omega arith)
 
 returns : tie.Need-returns
 returns c = let a = c .before .before .before .before .args in
-    known-way kview same? range column (drawn (a .byte) (a .address .0)) (a .k) _ _ (ap stands (c .before .before .column .given .1)) (c .draw-at .ensures)
+    known-way kview kview same? range column (drawn (a .byte) (a .address .0)) (a .k) _ _ (ap stands (c .before .before .column .given .1)) (c .draw-at .ensures)
 
 returns-2 : tie.Need-returns-2
 returns-2 c = let a = c .before .before .before .before .before .before .before .args in

@@ -77,48 +77,48 @@ at-requires-9 c κs = search needs
 
 returns : tie.Need-returns
 returns c = let e = c .at .ensures in
-    as-rule kview same? range _ _ (c .before .before .before .before .before .before .before .before .args .k) _ (ap (λ m. gives (commanded m)) (sym (c .before .before .before .before .before .before .before .command-of .ensures) ∙ c .before .before .before .before .before .command .given .1))
+    as-rule kview kview same? range _ _ (c .before .before .before .before .before .before .before .before .args .k) _ (ap (λ m. gives (commanded m)) (sym (c .before .before .before .before .before .before .before .command-of .ensures) ∙ c .before .before .before .before .before .command .given .1))
     (every _ (λ i. e (dcram i)) (λ i. e (cgram i)) (λ i. e (adram i)) (e dcramAt) (e cgramAt) (e adramAt) (e column) (e port) (e duty) (e digits) (e lights) (e position))
 
 returns-2 : tie.Need-returns-2
 returns-2 c = let e = c .at2 .ensures in
-    as-rule kview same? range _ _ (c .before .before .before .before .before .before .before .before .args .k) _ (ap (λ m. gives (commanded m)) (sym (c .before .before .before .before .before .before .before .command-of .ensures) ∙ c .before .before .before .before .before .command2 .given .1))
+    as-rule kview kview same? range _ _ (c .before .before .before .before .before .before .before .before .args .k) _ (ap (λ m. gives (commanded m)) (sym (c .before .before .before .before .before .before .before .command-of .ensures) ∙ c .before .before .before .before .before .command2 .given .1))
     (every _ (λ i. e (dcram i)) (λ i. e (cgram i)) (λ i. e (adram i)) (e dcramAt) (e cgramAt) (e adramAt) (e column) (e port) (e duty) (e digits) (e lights) (e position))
 
 returns-3 : tie.Need-returns-3
 returns-3 c = let e = c .at3 .ensures in
-    as-rule kview same? range _ _ (c .before .before .before .before .before .before .before .before .args .k) _ (ap (λ m. gives (commanded m)) (sym (c .before .before .before .before .before .before .before .command-of .ensures) ∙ c .before .before .before .before .before .command3 .given .1))
+    as-rule kview kview same? range _ _ (c .before .before .before .before .before .before .before .before .args .k) _ (ap (λ m. gives (commanded m)) (sym (c .before .before .before .before .before .before .before .command-of .ensures) ∙ c .before .before .before .before .before .command3 .given .1))
     (every _ (λ i. e (dcram i)) (λ i. e (cgram i)) (λ i. e (adram i)) (e dcramAt) (e cgramAt) (e adramAt) (e column) (e port) (e duty) (e digits) (e lights) (e position))
 
 returns-4 : tie.Need-returns-4
 returns-4 c = let e = c .at4 .ensures in
-    as-rule kview same? range _ _ (c .before .before .before .before .before .before .before .before .args .k) _ (ap (λ m. gives (commanded m)) (sym (c .before .before .before .before .before .before .before .command-of .ensures) ∙ c .before .before .before .before .before .command4 .given .1))
+    as-rule kview kview same? range _ _ (c .before .before .before .before .before .before .before .before .args .k) _ (ap (λ m. gives (commanded m)) (sym (c .before .before .before .before .before .before .before .command-of .ensures) ∙ c .before .before .before .before .before .command4 .given .1))
     (every _ (λ i. e (dcram i)) (λ i. e (cgram i)) (λ i. e (adram i)) (e dcramAt) (e cgramAt) (e adramAt) (e column) (e port) (e duty) (e digits) (e lights) (e position))
 
 returns-5 : tie.Need-returns-5
 returns-5 c = let e = c .at5 .ensures in
-    as-rule kview same? range _ _ (c .before .before .before .before .before .before .before .before .args .k) _ (ap (λ m. gives (commanded m)) (sym (c .before .before .before .before .before .before .before .command-of .ensures) ∙ c .before .before .before .before .before .command5 .given .1))
+    as-rule kview kview same? range _ _ (c .before .before .before .before .before .before .before .before .args .k) _ (ap (λ m. gives (commanded m)) (sym (c .before .before .before .before .before .before .before .command-of .ensures) ∙ c .before .before .before .before .before .command5 .given .1))
     (every _ (λ i. e (dcram i)) (λ i. e (cgram i)) (λ i. e (adram i)) (e dcramAt) (e cgramAt) (e adramAt) (e column) (e port) (e duty) (e digits) (e lights) (e position))
 
 returns-6 : tie.Need-returns-6
 returns-6 c = let e = c .at6 .ensures in
-    as-rule kview same? range _ _ (c .before .before .before .before .before .before .before .before .args .k) _ (ap (λ m. gives (commanded m)) (sym (c .before .before .before .before .before .before .before .command-of .ensures) ∙ c .before .before .before .before .before .command6 .given .1))
+    as-rule kview kview same? range _ _ (c .before .before .before .before .before .before .before .before .args .k) _ (ap (λ m. gives (commanded m)) (sym (c .before .before .before .before .before .before .before .command-of .ensures) ∙ c .before .before .before .before .before .command6 .given .1))
     (every _ (λ i. e (dcram i)) (λ i. e (cgram i)) (λ i. e (adram i)) (e dcramAt) (e cgramAt) (e adramAt) (e column) (e port) (e duty) (e digits) (e lights) (e position))
 
 returns-7 : tie.Need-returns-7
 returns-7 c = let e = c .at7 .ensures in
-    as-rule kview same? range _ _ (c .before .before .before .before .before .before .before .before .before .args .k) _ (ap (λ m. gives (commanded m)) (sym (c .before .before .before .before .before .before .before .before .command-of .ensures) ∙ c .before .before .before .before .before .before .command7 .given .1))
+    as-rule kview kview same? range _ _ (c .before .before .before .before .before .before .before .before .before .args .k) _ (ap (λ m. gives (commanded m)) (sym (c .before .before .before .before .before .before .before .before .command-of .ensures) ∙ c .before .before .before .before .before .before .command7 .given .1))
     (every _ (λ i. e (dcram i)) (λ i. e (cgram i)) (λ i. e (adram i)) (e dcramAt) (e cgramAt) (e adramAt) (e column) (e port) (e duty) (e digits) (e lights ∙ ap known (c .before .before .before .before .lights-number .ensures)) (e position))
 
 returns-8 : tie.Need-returns-8
 returns-8 c = let e = c .at8 .ensures in
-    as-rule kview same? range _ _ (c .before .before .before .before .args .k) _ (ap (λ m. gives (commanded m)) (sym (c .before .before .before .command-of .ensures) ∙ c .before .enum-told .given .1))
+    as-rule kview kview same? range _ _ (c .before .before .before .before .args .k) _ (ap (λ m. gives (commanded m)) (sym (c .before .before .before .command-of .ensures) ∙ c .before .enum-told .given .1))
     (every _ (λ i. e (dcram i)) (λ i. e (cgram i)) (λ i. e (adram i)) (e dcramAt) (e cgramAt) (e adramAt) (e column) (e port) (e duty) (e digits) (e lights) (e position))
 
 returns-9 : tie.Need-returns-9
 returns-9 c = let u = c .before .nothing-known .ensures in
     let e = c .at9 .ensures in
-    as-rule kview same? range _ _ (c .before .before .before .before .before .args .k) _ (ap (λ m. gives (commanded m)) (sym (c .before .before .before .before .command-of .ensures) ∙ c .before .before .enum-told2 .given .1))
+    as-rule kview kview same? range _ _ (c .before .before .before .before .before .args .k) _ (ap (λ m. gives (commanded m)) (sym (c .before .before .before .before .command-of .ensures) ∙ c .before .before .enum-told2 .given .1))
     (every _ (λ i. e (dcram i) ∙ u (dcram i)) (λ i. e (cgram i) ∙ u (cgram i)) (λ i. e (adram i) ∙ u (adram i)) (e dcramAt ∙ u dcramAt) (e cgramAt ∙ u cgramAt) (e adramAt ∙ u adramAt) (e column ∙ u column) (e port ∙ u port) (e duty ∙ u duty) (e digits ∙ u digits) (e lights ∙ u lights) (e position))
 
 pub first-in-spec : {M : Type 1} → statement M

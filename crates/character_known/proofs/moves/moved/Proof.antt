@@ -56,36 +56,36 @@ enum-told-8 c = search needs
 
 returns : tie.Need-returns
 returns c = let a = c .before .before .before .args in
-    as-rule kview same? range _ _ (a .k) _ (ap move (c .before .enum-told .given .1)) (c .at-power .ensures)
+    as-rule kview kview same? range _ _ (a .k) _ (ap move (c .before .enum-told .given .1)) (c .at-power .ensures)
 
 returns-2 : tie.Need-returns-2
 returns-2 c = let a = c .before .before .before .args in
-    as-rule kview same? range _ _ (a .k) _ (ap move (c .before .enum-told2 .given .1)) (learnt kview same? (a .k) _ position 1 (c .at .ensures))
+    as-rule kview kview same? range _ _ (a .k) _ (ap move (c .before .enum-told2 .given .1)) (learnt kview same? (a .k) _ position 1 (c .at .ensures))
 
 returns-3 : tie.Need-returns-3
 returns-3 c = let a = c .before .before .before .before .args in
-    as-rule kview same? range _ _ (a .k) _ (ap move (c .before .before .event .given .1)) (c .byte-in .ensures)
+    as-rule kview kview same? range _ _ (a .k) _ (ap move (c .before .before .event .given .1)) (c .byte-in .ensures)
 
 returns-4 : tie.Need-returns-4
 returns-4 c = let a = c .before .before .before .args in
-    as-rule kview same? range _ _ (a .k) _ (ap move (c .before .enum-told3 .given .1)) (learnt kview same? (a .k) _ position 0 (c .at2 .ensures))
+    as-rule kview kview same? range _ _ (a .k) _ (ap move (c .before .enum-told3 .given .1)) (learnt kview same? (a .k) _ position 0 (c .at2 .ensures))
 
 returns-5 : tie.Need-returns-5
 returns-5 c = let a = c .before .before .before .args in
-    as-rule kview same? range _ _ (a .k) _ (ap move (c .before .enum-told4 .given .1)) (c .nothing-known .ensures)
+    as-rule kview kview same? range _ _ (a .k) _ (ap move (c .before .enum-told4 .given .1)) (c .nothing-known .ensures)
 
 returns-6 : tie.Need-returns-6
 returns-6 c = let a = c .before .before .before .args in
-    as-rule kview same? range _ _ (a .k) _ (ap move (c .before .enum-told5 .given .1)) (learnt kview same? (a .k) _ position 0 (c .at3 .ensures))
+    as-rule kview kview same? range _ _ (a .k) _ (ap move (c .before .enum-told5 .given .1)) (learnt kview same? (a .k) _ position 0 (c .at3 .ensures))
 
 returns-7 : tie.Need-returns-7
-returns-7 c = as-rule kview same? range _ nothing _ _ (ap move (c .enum-told6 .given .1)) (λ f. refl)
+returns-7 c = as-rule kview kview same? range _ nothing _ _ (ap move (c .enum-told6 .given .1)) (λ f. refl)
 
 returns-8 : tie.Need-returns-8
-returns-8 c = as-rule kview same? range _ nothing _ _ (ap move (c .enum-told7 .given .1)) (λ f. refl)
+returns-8 c = as-rule kview kview same? range _ nothing _ _ (ap move (c .enum-told7 .given .1)) (λ f. refl)
 
 returns-9 : tie.Need-returns-9
-returns-9 c = as-rule kview same? range _ nothing _ _ (ap move (c .enum-told8 .given .1)) (λ f. refl)
+returns-9 c = as-rule kview kview same? range _ nothing _ _ (ap move (c .enum-told8 .given .1)) (λ f. refl)
 
 pub moved-spec : {M : Type 1} → statement M
 moved-spec =

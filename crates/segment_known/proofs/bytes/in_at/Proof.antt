@@ -29,7 +29,7 @@ returns-2 c = rw (c .before .match .keys2) (c .open-in .ensures)
 returns-3 : tie.Need-returns-3
 returns-3 c = let a = c .before .args in
     let s = sizes (a .family) in
-    as-rule kview same? (range s) (byteIn s (a .byte) (a .place)) nothing (a .k) (a .k) (other-in (commanded (commandOf s (a .byte))) (look dataMode (written s (a .byte))) (a .place) (c .match .rest .0 .1) (c .match .rest .1)) (λ f. refl)
+    as-rule kview kview same? (range s) (byteIn s (a .byte) (a .place)) nothing (a .k) (a .k) (other-in (commanded (commandOf s (a .byte))) (look dataMode (written s (a .byte))) (a .place) (c .match .rest .0 .1) (c .match .rest .1)) (λ f. refl)
 
 pub in-at-spec : {M : Type 1} → statement M
 in-at-spec = tie.close (tie.spec first-in-requires open-in-requires returns returns-2 returns-3)

@@ -61,18 +61,18 @@ enum-told-3 c = search needs
 returns : tie.Need-returns
 returns c = let a = c .before .before .before .before .args in
     let s = sizes (a .family) in
-    known-way kview same? (range s) dataMode (written s (a .byte)) (a .k) _ _ (ap stands (c .before .before .«data» .given .1)) (c .written-in .ensures)
+    known-way kview kview same? (range s) dataMode (written s (a .byte)) (a .k) _ _ (ap stands (c .before .before .«data» .given .1)) (c .written-in .ensures)
 
 returns-2 : tie.Need-returns-2
 unfolding sizes
 returns-2 c = let a = c .before .before .before .before .before .before .before .before .before .before .before .before .before .args in
     let s = sizes (a .family) in
-    all-ways kview same? (range s) dataMode (written s (a .byte)) (a .k) 4 _ (ap (λ p. range (sizes p) dataMode) (c .before .before .enum-told2 .given .1)) (ap stands (c .before .before .before .before .before .before .before .before .before .before .before .enum-told .given .1))
-    (next-way kview same? (range s) dataMode (written s (a .byte)) (a .k) 2 _ _ _ (c .both3 .ensures)
-    (next-way kview same? (range s) dataMode (written s (a .byte)) (a .k) 1 _ _ _ (c .before .before .before .before .both2 .ensures)
-    (next-way kview same? (range s) dataMode (written s (a .byte)) (a .k) 0 _ _ _ (c .before .before .before .before .before .before .both .ensures)
-    (first-way kview same? (range s) dataMode (written s (a .byte)) (a .k) _ (way kview same? (range s) (look address (stored s (a .byte))) _ _ _ _ _ (c .before .before .before .before .before .before .before .before .before .before .with-data .ensures) (c .before .before .before .before .before .before .before .before .before .stored-by .ensures)))
-    (way kview same? (range s) (gives (sets led (a .byte % 16) keep)) _ _ _ _ _ (c .before .before .before .before .before .before .before .before .with-data2 .ensures) (c .before .before .before .before .before .before .before .led-in .ensures)))
+    all-ways kview kview same? (range s) dataMode (written s (a .byte)) (a .k) 4 _ (ap (λ p. range (sizes p) dataMode) (c .before .before .enum-told2 .given .1)) (ap stands (c .before .before .before .before .before .before .before .before .before .before .before .enum-told .given .1))
+    (next-way kview kview same? (range s) dataMode (written s (a .byte)) (a .k) 2 _ _ _ (c .both3 .ensures)
+    (next-way kview kview same? (range s) dataMode (written s (a .byte)) (a .k) 1 _ _ _ (c .before .before .before .before .both2 .ensures)
+    (next-way kview kview same? (range s) dataMode (written s (a .byte)) (a .k) 0 _ _ _ (c .before .before .before .before .before .before .both .ensures)
+    (first-way kview kview same? (range s) dataMode (written s (a .byte)) (a .k) _ (way kview kview same? (range s) (look address (stored s (a .byte))) _ _ _ _ _ (c .before .before .before .before .before .before .before .before .before .before .with-data .ensures) (c .before .before .before .before .before .before .before .before .before .stored-by .ensures)))
+    (way kview kview same? (range s) (gives (sets led (a .byte % 16) keep)) _ _ _ _ _ (c .before .before .before .before .before .before .before .before .with-data2 .ensures) (c .before .before .before .before .before .before .before .led-in .ensures)))
     (c .before .before .before .before .before .with-data3 .ensures))
     (c .before .with-data4 .ensures))
 
@@ -80,11 +80,11 @@ returns-3 : tie.Need-returns-3
 unfolding sizes
 returns-3 c = let a = c .before .before .before .before .before .before .before .before .before .before .before .args in
     let s = sizes (a .family) in
-    all-ways kview same? (range s) dataMode (written s (a .byte)) (a .k) 3 _ (ap (λ p. range (sizes p) dataMode) (c .enum-told3 .given .1)) (ap stands (c .before .before .before .before .before .before .before .before .before .enum-told .given .1))
-    (next-way kview same? (range s) dataMode (written s (a .byte)) (a .k) 1 _ _ _ (c .before .before .both2 .ensures)
-    (next-way kview same? (range s) dataMode (written s (a .byte)) (a .k) 0 _ _ _ (c .before .before .before .before .both .ensures)
-    (first-way kview same? (range s) dataMode (written s (a .byte)) (a .k) _ (way kview same? (range s) (look address (stored s (a .byte))) _ _ _ _ _ (c .before .before .before .before .before .before .before .before .with-data .ensures) (c .before .before .before .before .before .before .before .stored-by .ensures)))
-    (way kview same? (range s) (gives (sets led (a .byte % 16) keep)) _ _ _ _ _ (c .before .before .before .before .before .before .with-data2 .ensures) (c .before .before .before .before .before .led-in .ensures)))
+    all-ways kview kview same? (range s) dataMode (written s (a .byte)) (a .k) 3 _ (ap (λ p. range (sizes p) dataMode) (c .enum-told3 .given .1)) (ap stands (c .before .before .before .before .before .before .before .before .before .enum-told .given .1))
+    (next-way kview kview same? (range s) dataMode (written s (a .byte)) (a .k) 1 _ _ _ (c .before .before .both2 .ensures)
+    (next-way kview kview same? (range s) dataMode (written s (a .byte)) (a .k) 0 _ _ _ (c .before .before .before .before .both .ensures)
+    (first-way kview kview same? (range s) dataMode (written s (a .byte)) (a .k) _ (way kview kview same? (range s) (look address (stored s (a .byte))) _ _ _ _ _ (c .before .before .before .before .before .before .before .before .with-data .ensures) (c .before .before .before .before .before .before .before .stored-by .ensures)))
+    (way kview kview same? (range s) (gives (sets led (a .byte % 16) keep)) _ _ _ _ _ (c .before .before .before .before .before .before .with-data2 .ensures) (c .before .before .before .before .before .led-in .ensures)))
     (c .before .before .before .with-data3 .ensures))
 
 pub open-in-spec : {M : Type 1} → statement M

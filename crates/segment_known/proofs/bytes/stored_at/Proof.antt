@@ -39,15 +39,15 @@ both-requires c κs = search needs
 returns : tie.Need-returns
 returns c = let a = c .before .before .before .before .args in
     let s = sizes (a .family) in
-    known-way kview same? (range s) stepping (storedAt s (a .byte) (a .cell .0)) (a .k) _ _ (ap stands (c .before .before .stepping .given .1)) (c .stored-so .ensures)
+    known-way kview kview same? (range s) stepping (storedAt s (a .byte) (a .cell .0)) (a .k) _ _ (ap stands (c .before .before .stepping .given .1)) (c .stored-so .ensures)
 
 returns-2 : tie.Need-returns-2
 returns-2 c = let a = c .before .before .before .before .before .before .before .args in
     let s = sizes (a .family) in
-    all-ways kview same? (range s) stepping (storedAt s (a .byte) (a .cell .0)) (a .k) 2 _ refl (ap stands (c .before .before .before .before .before .enum-told .given .1))
-    (next-way kview same? (range s) stepping (storedAt s (a .byte) (a .cell .0)) (a .k) 0 _ _ _ (c .both .ensures)
-    (first-way kview same? (range s) stepping (storedAt s (a .byte) (a .cell .0)) (a .k) _ (way kview same? (range s) (storedAt s (a .byte) (a .cell .0) 0) _ _ _ _ _ (c .before .before .before .before .stepping-by .ensures) (c .before .before .before .stored-so2 .ensures)))
-    (way kview same? (range s) (storedAt s (a .byte) (a .cell .0) 1) _ _ _ _ _ (c .before .before .stepping-by2 .ensures) (c .before .stored-so3 .ensures)))
+    all-ways kview kview same? (range s) stepping (storedAt s (a .byte) (a .cell .0)) (a .k) 2 _ refl (ap stands (c .before .before .before .before .before .enum-told .given .1))
+    (next-way kview kview same? (range s) stepping (storedAt s (a .byte) (a .cell .0)) (a .k) 0 _ _ _ (c .both .ensures)
+    (first-way kview kview same? (range s) stepping (storedAt s (a .byte) (a .cell .0)) (a .k) _ (way kview kview same? (range s) (storedAt s (a .byte) (a .cell .0) 0) _ _ _ _ _ (c .before .before .before .before .stepping-by .ensures) (c .before .before .before .stored-so2 .ensures)))
+    (way kview kview same? (range s) (storedAt s (a .byte) (a .cell .0) 1) _ _ _ _ _ (c .before .before .stepping-by2 .ensures) (c .before .stored-so3 .ensures)))
 
 pub stored-at-spec : {M : Type 1} → statement M
 stored-at-spec =

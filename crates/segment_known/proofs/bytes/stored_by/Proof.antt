@@ -34,19 +34,19 @@ stored-somewhere-requires c κs = ap points (c .enum-told2 .given .1)
 returns : tie.Need-returns
 returns c = let a = c .before .before .before .before .before .before .before .before .args in
     let s = sizes (a .family) in
-    known-way kview same? (range s) address (stored s (a .byte)) (a .k) _ _ (ap points (c .before .before .before .before .before .before .address .given .1))
+    known-way kview kview same? (range s) address (stored s (a .byte)) (a .k) _ _ (ap points (c .before .before .before .before .before .before .address .given .1))
     (simp (lt-ltb _ _ (rw (c .before .before .before .before .sizes .ensures) at (c .before .if1 .taken))) (c .stored-at .ensures))
 
 returns-2 : tie.Need-returns-2
 returns-2 c = let a = c .before .before .before .before .before .before .before .args in
     let s = sizes (a .family) in
-    known-way kview same? (range s) address (stored s (a .byte)) (a .k) _ _ (ap points (c .before .before .before .before .before .address .given .1))
+    known-way kview kview same? (range s) address (stored s (a .byte)) (a .k) _ _ (ap points (c .before .before .before .before .before .address .given .1))
     (simp (le-ltb _ _ (rw (c .before .before .before .sizes .ensures) at (c .if1 .left))) (λ f. refl))
 
 returns-3 : tie.Need-returns-3
 returns-3 c = let a = c .before .before .args in
     let s = sizes (a .family) in
-    known-way kview same? (range s) address (stored s (a .byte)) (a .k) _ _ (ap points (c .enum-told .given .1)) (λ f. refl)
+    known-way kview kview same? (range s) address (stored s (a .byte)) (a .k) _ _ (ap points (c .enum-told .given .1)) (λ f. refl)
 
 returns-4 : tie.Need-returns-4
 returns-4 c = search needs

@@ -38,7 +38,7 @@ returns-2 : tie.Need-returns-2
 returns-2 c = let a = c .before .before .before .before .args in
     let e = c .before .before .cell-in .ensures in
     let h : a .cell .0 < length (a .k .cells) = omega (arith, c .before .before .before .before .pre, room (a .family) .0) in
-    as-rule kview same? (range (sizes (a .family))) _ _ _ _ (other-step _ _ _ (c .before .match .rest .1))
+    as-rule kview kview same? (range (sizes (a .family))) _ _ _ _ (other-step _ _ _ (c .before .match .rest .1))
     (every _ (λ j. ap (λ (l : List ℕ). coded (getD l j 256)) (e .0) ∙ coded-set same? cell cells-apart (kview (a .k)) keep (a .k .cells) (a .cell .0) (a .byte) j (omega (arith, c .before .before .before .before .fits .byte)) h refl)
     refl refl refl refl refl refl refl (λ i. refl) refl refl refl)
 

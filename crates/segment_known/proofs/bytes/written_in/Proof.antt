@@ -30,7 +30,7 @@ returns-2 c = rw (c .before .match .keys2) (c .led-in .ensures)
 returns-3 : tie.Need-returns-3
 returns-3 c = let a = c .before .args in
     let s = sizes (a .family) in
-    as-rule kview same? (range s) (written s (a .byte) (a .mode)) nothing (a .k) (a .k) (other-written (look address (stored s (a .byte))) (gives (sets led (a .byte % 16) keep)) (a .mode) (c .match .rest .0 .1) (c .match .rest .1)) (λ f. refl)
+    as-rule kview kview same? (range s) (written s (a .byte) (a .mode)) nothing (a .k) (a .k) (other-written (look address (stored s (a .byte))) (gives (sets led (a .byte % 16) keep)) (a .mode) (c .match .rest .0 .1) (c .match .rest .1)) (λ f. refl)
 
 pub written-in-spec : {M : Type 1} → statement M
 written-in-spec =

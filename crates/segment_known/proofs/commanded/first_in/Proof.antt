@@ -73,41 +73,41 @@ at-requires-4 c κs = search needs
 returns : tie.Need-returns
 returns c = let a = c .before .before .before .before .before .args in
     let s = sizes (a .family) in
-    as-rule kview same? (range s) _ _ (a .k) _ (ap commanded (sym (c .before .before .before .before .command-of .ensures) ∙ c .before .before .command .given .1))
+    as-rule kview kview same? (range s) _ _ (a .k) _ (ap commanded (sym (c .before .before .before .before .command-of .ensures) ∙ c .before .before .command .given .1))
     (c .to-mode .ensures)
 
 returns-2 : tie.Need-returns-2
 returns-2 c = let a = c .before .before .before .before .args in
     let s = sizes (a .family) in
-    as-rule kview same? (range s) _ _ (a .k) _ (ap commanded (sym (c .before .before .before .command-of .ensures) ∙ c .before .enum-told .given .1))
+    as-rule kview kview same? (range s) _ _ (a .k) _ (ap commanded (sym (c .before .before .before .command-of .ensures) ∙ c .before .enum-told .given .1))
     (c .in-test .ensures)
 
 returns-3 : tie.Need-returns-3
 returns-3 c = let a = c .before .before .before .before .before .before .before .before .before .args in
     let s = sizes (a .family) in
     let e = c .at .ensures in
-    as-rule kview same? (range s) _ _ (a .k) _ (ap commanded (sym (c .before .before .before .before .before .before .before .before .command-of .ensures) ∙ c .before .before .before .before .before .before .command2 .given .1))
+    as-rule kview kview same? (range s) _ _ (a .k) _ (ap commanded (sym (c .before .before .before .before .before .before .before .before .command-of .ensures) ∙ c .before .before .before .before .before .before .command2 .given .1))
     (every _ (λ i. e (cell i)) (e address) (e dataMode ∙ ap known (c .before .before .before .before .data-number .ensures)) (e stepping ∙ ap known (c .before .before .before .step-number .ensures)) (e mode) (e dimming) (e display) (e led) (λ i. e (key i)) (e switches) (e readCount) (e position))
 
 returns-4 : tie.Need-returns-4
 returns-4 c = let a = c .before .before .before .before .before .before .before .before .args in
     let s = sizes (a .family) in
     let e = c .at2 .ensures in
-    as-rule kview same? (range s) _ _ (a .k) _ (ap commanded (sym (c .before .before .before .before .before .before .before .command-of .ensures) ∙ c .before .before .before .before .before .command3 .given .1))
+    as-rule kview kview same? (range s) _ _ (a .k) _ (ap commanded (sym (c .before .before .before .before .before .before .before .command-of .ensures) ∙ c .before .before .before .before .before .command3 .given .1))
     (every _ (λ i. e (cell i)) (e address) (e dataMode) (e stepping ∙ ap known (c .before .before .before .step-number2 .ensures)) (e mode) (e dimming) (e display) (e led) (λ i. e (key i)) (e switches) (e readCount) (e position))
 
 returns-5 : tie.Need-returns-5
 returns-5 c = let a = c .before .before .before .before .before .before .before .before .args in
     let s = sizes (a .family) in
     let e = c .at3 .ensures in
-    as-rule kview same? (range s) _ _ (a .k) _ (ap commanded (sym (c .before .before .before .before .before .before .before .command-of .ensures) ∙ c .before .before .before .before .before .command4 .given .1))
+    as-rule kview kview same? (range s) _ _ (a .k) _ (ap commanded (sym (c .before .before .before .before .before .before .before .command-of .ensures) ∙ c .before .before .before .before .before .command4 .given .1))
     (every _ (λ i. e (cell i)) (e address) (e dataMode) (e stepping) (e mode) (e dimming) (e display ∙ ap known (c .before .before .before .display-number .ensures)) (e led) (λ i. e (key i)) (e switches) (e readCount) (e position))
 
 returns-6 : tie.Need-returns-6
 returns-6 c = let a = c .before .before .before .before .before .before .before .before .args in
     let s = sizes (a .family) in
     let e = c .at4 .ensures in
-    as-rule kview same? (range s) _ _ (a .k) _ (ap commanded (sym (c .before .before .before .before .before .before .before .command-of .ensures) ∙ c .before .before .before .before .before .command5 .given .1))
+    as-rule kview kview same? (range s) _ _ (a .k) _ (ap commanded (sym (c .before .before .before .before .before .before .before .command-of .ensures) ∙ c .before .before .before .before .before .command5 .given .1))
     (every _ (λ i. e (cell i)) (e address ∙ c .before .before .before .known-pointing .ensures) (e dataMode) (e stepping) (e mode) (e dimming) (e display) (e led) (λ i. e (key i)) (e switches) (e readCount) (e position))
 
 pub first-in-spec : {M : Type 1} → statement M

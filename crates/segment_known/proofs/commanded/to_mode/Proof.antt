@@ -36,13 +36,13 @@ both-requires c κs = search needs
 returns : tie.Need-returns
 returns c = let a = c .before .before .before .before .before .before .before .before .args in
     let s = sizes (a .family) in
-    known-way kview same? (range s) mode (toMode (a .code)) (a .k) _ _ (ap stands (c .before .before .before .old .given .1)) (simp (eq-eqb _ _ (c .before .if1 .taken)) (learnt kview same? (a .k) _ position 3 (c .at2 .ensures)))
+    known-way kview kview same? (range s) mode (toMode (a .code)) (a .k) _ _ (ap stands (c .before .before .before .old .given .1)) (simp (eq-eqb _ _ (c .before .if1 .taken)) (learnt kview same? (a .k) _ position 3 (c .at2 .ensures)))
 
 returns-2 : tie.Need-returns-2
 returns-2 c = let a = c .before .before .before .before .before .before .before .args in
     let s = sizes (a .family) in
     let e = c .before .before .before .before .at .ensures in
-    known-way kview same? (range s) mode (toMode (a .code)) (a .k) _ _ (ap stands (c .before .before .old .given .1)) (simp (ne-eqb _ _ (c .if1 .left)) (every _ (λ i. e (cell i)) (e address) (e dataMode) (e stepping) (e mode) (e dimming) (e display) (e led) (λ i. e (key i)) (e switches) (e readCount) (e position)))
+    known-way kview kview same? (range s) mode (toMode (a .code)) (a .k) _ _ (ap stands (c .before .before .old .given .1)) (simp (ne-eqb _ _ (c .if1 .left)) (every _ (λ i. e (cell i)) (e address) (e dataMode) (e stepping) (e mode) (e dimming) (e display) (e led) (λ i. e (key i)) (e switches) (e readCount) (e position)))
 
 returns-3 : tie.Need-returns-3
 returns-3 c = let a = c .before .before .before .before .before .before .before .before .before .args in

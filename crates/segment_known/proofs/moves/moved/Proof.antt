@@ -68,47 +68,47 @@ byte-out-requires c κs = search needs
 returns : tie.Need-returns
 returns c = let a = c .before .before .before .args in
     let s = sizes (a .family) in
-    as-rule kview same? (range s) _ _ (a .k) _ (ap (move s) (c .before .enum-told .given .1)) (c .at-power .ensures)
+    as-rule kview kview same? (range s) _ _ (a .k) _ (ap (move s) (c .before .enum-told .given .1)) (c .at-power .ensures)
 
 returns-2 : tie.Need-returns-2
 returns-2 c = let a = c .before .before .before .args in
     let s = sizes (a .family) in
-    as-rule kview same? (range s) _ _ (a .k) _ (ap (move s) (c .before .enum-told2 .given .1)) (learnt kview same? (a .k) _ position 1 (c .at .ensures))
+    as-rule kview kview same? (range s) _ _ (a .k) _ (ap (move s) (c .before .enum-told2 .given .1)) (learnt kview same? (a .k) _ position 1 (c .at .ensures))
 
 returns-3 : tie.Need-returns-3
 returns-3 c = let a = c .before .before .before .before .args in
     let s = sizes (a .family) in
-    as-rule kview same? (range s) _ _ (a .k) _ (ap (move s) (c .before .before .event .given .1)) (c .byte-in .ensures)
+    as-rule kview kview same? (range s) _ _ (a .k) _ (ap (move s) (c .before .before .event .given .1)) (c .byte-in .ensures)
 
 returns-4 : tie.Need-returns-4
 returns-4 c = let a = c .before .before .before .args in
     let s = sizes (a .family) in
-    as-rule kview same? (range s) _ _ (a .k) _ (ap (move s) (c .before .enum-told3 .given .1)) (learnt kview same? (a .k) _ position 0 (c .at2 .ensures))
+    as-rule kview kview same? (range s) _ _ (a .k) _ (ap (move s) (c .before .enum-told3 .given .1)) (learnt kview same? (a .k) _ position 0 (c .at2 .ensures))
 
 returns-5 : tie.Need-returns-5
 returns-5 c = let a = c .before .before .before .args in
     let s = sizes (a .family) in
-    as-rule kview same? (range s) _ _ (a .k) _ (ap (move s) (c .before .enum-told4 .given .1)) (c .nothing-known .ensures)
+    as-rule kview kview same? (range s) _ _ (a .k) _ (ap (move s) (c .before .enum-told4 .given .1)) (c .nothing-known .ensures)
 
 returns-6 : tie.Need-returns-6
 returns-6 c = let a = c .before .before .before .args in
     let s = sizes (a .family) in
-    as-rule kview same? (range s) _ _ (a .k) _ (ap (move s) (c .before .enum-told5 .given .1)) (learnt kview same? (a .k) _ position 0 (c .at3 .ensures))
+    as-rule kview kview same? (range s) _ _ (a .k) _ (ap (move s) (c .before .enum-told5 .given .1)) (learnt kview same? (a .k) _ position 0 (c .at3 .ensures))
 
 returns-7 : tie.Need-returns-7
 returns-7 c = let a = c .before .before .before .before .args in
     let s = sizes (a .family) in
-    as-rule kview same? (range s) _ _ (a .k) _ (ap (move s) (c .before .before .event2 .given .1)) (c .keys-latched .ensures)
+    as-rule kview kview same? (range s) _ _ (a .k) _ (ap (move s) (c .before .before .event2 .given .1)) (c .keys-latched .ensures)
 
 returns-8 : tie.Need-returns-8
 returns-8 c = let a = c .before .before .before .before .args in
     let s = sizes (a .family) in
-    as-rule kview same? (range s) _ _ (a .k) _ (ap (move s) (c .before .before .event3 .given .1)) (c .switches-latched .ensures)
+    as-rule kview kview same? (range s) _ _ (a .k) _ (ap (move s) (c .before .before .event3 .given .1)) (c .switches-latched .ensures)
 
 returns-9 : tie.Need-returns-9
 returns-9 c = let a = c .before .before .before .args in
     let s = sizes (a .family) in
-    as-rule kview same? (range s) _ _ (a .k) _ (ap (move s) (c .before .enum-told6 .given .1)) (c .byte-out .ensures)
+    as-rule kview kview same? (range s) _ _ (a .k) _ (ap (move s) (c .before .enum-told6 .given .1)) (c .byte-out .ensures)
 
 pub moved-spec : {M : Type 1} → statement M
 moved-spec =

@@ -49,18 +49,18 @@ both-requires-3 c κs = search needs
 returns : tie.Need-returns
 returns c = let a = c .before .before .before .before .args in
     let s = sizes (a .family) in
-    known-way kview same? (range s) position (byteOut) (a .k) _ _ (ap stands (c .before .before .position .given .1)) (c .out-at .ensures)
+    known-way kview kview same? (range s) position (byteOut) (a .k) _ _ (ap stands (c .before .before .position .given .1)) (c .out-at .ensures)
 
 returns-2 : tie.Need-returns-2
 returns-2 c = let a = c .before .before .before .before .before .before .before .before .before .before .args in
     let s = sizes (a .family) in
-    all-ways kview same? (range s) position byteOut (a .k) 4 _ refl (ap stands (c .before .before .before .before .before .before .before .before .enum-told .given .1))
-    (next-way kview same? (range s) position byteOut (a .k) 2 _ _ _ (c .both3 .ensures)
-    (next-way kview same? (range s) position byteOut (a .k) 1 _ _ _ (c .before .before .both2 .ensures)
-    (next-way kview same? (range s) position byteOut (a .k) 0 _ _ _ (c .before .before .before .before .before .both .ensures)
-    (first-way kview same? (range s) position byteOut (a .k) _ (c .before .before .before .before .before .before .before .at .ensures))
+    all-ways kview kview same? (range s) position byteOut (a .k) 4 _ refl (ap stands (c .before .before .before .before .before .before .before .before .enum-told .given .1))
+    (next-way kview kview same? (range s) position byteOut (a .k) 2 _ _ _ (c .both3 .ensures)
+    (next-way kview kview same? (range s) position byteOut (a .k) 1 _ _ _ (c .before .before .both2 .ensures)
+    (next-way kview kview same? (range s) position byteOut (a .k) 0 _ _ _ (c .before .before .before .before .before .both .ensures)
+    (first-way kview kview same? (range s) position byteOut (a .k) _ (c .before .before .before .before .before .before .before .at .ensures))
     (c .before .before .before .before .before .before .at2 .ensures))
-    (way kview same? (range s) (look dataMode readOut) _ _ _ _ _ (c .before .before .before .before .at3 .ensures) (c .before .before .before .open-out .ensures)))
+    (way kview kview same? (range s) (look dataMode readOut) _ _ _ _ _ (c .before .before .before .before .at3 .ensures) (c .before .before .before .open-out .ensures)))
     (c .before .at4 .ensures))
 
 pub byte-out-spec : {M : Type 1} → statement M

@@ -31,7 +31,7 @@ returns c = let a = c .before .before .before .before .before .before .args in
     let s = sizes (a .family) in
     let n = c .before .before .before .before .count .given .0 in
     let e : c .before .before .if1 .more ≡ min (n .0 + 1) 4 = ⊎-elim (λ w. omega arith) (λ w. omega arith) (c .before .before .if1 .came) in
-    known-way kview same? (range s) readCount counted (a .k) _ _ (ap stands (c .before .before .before .before .count .given .1)) (rw e (every _ (λ i. refl) refl refl refl refl refl refl refl (λ i. refl) refl refl refl))
+    known-way kview kview same? (range s) readCount counted (a .k) _ _ (ap stands (c .before .before .before .before .count .given .1)) (rw e (every _ (λ i. refl) refl refl refl refl refl refl refl (λ i. refl) refl refl refl))
 
 returns-2 : tie.Need-returns-2
 returns-2 c = let a = c .before .before .args in

@@ -60,36 +60,36 @@ enum-told-3 c = search needs
 returns : tie.Need-returns
 returns c = let a = c .before .before .before .before .args in
     let s = sizes (a .family) in
-    known-way kview same? (range s) dataMode (readOut) (a .k) _ _ (ap stands (c .before .before .«data» .given .1)) (as-rule kview same? (range s) _ nothing (a .k) (a .k) (low-read (look readCount counted) _ (c .if1 .taken)) (λ f. refl))
+    known-way kview kview same? (range s) dataMode (readOut) (a .k) _ _ (ap stands (c .before .before .«data» .given .1)) (as-rule kview kview same? (range s) _ nothing (a .k) (a .k) (low-read (look readCount counted) _ (c .if1 .taken)) (λ f. refl))
 
 returns-2 : tie.Need-returns-2
 returns-2 c = let a = c .before .before .before .before .before .args in
     let s = sizes (a .family) in
-    known-way kview same? (range s) dataMode (readOut) (a .k) _ _ (ap stands (c .before .before .before .«data» .given .1)) (as-rule kview same? (range s) _ (look readCount counted) (a .k) _ (high-read (look readCount counted) _ (c .before .if1 .left)) (c .counted-up .ensures))
+    known-way kview kview same? (range s) dataMode (readOut) (a .k) _ _ (ap stands (c .before .before .before .«data» .given .1)) (as-rule kview kview same? (range s) _ (look readCount counted) (a .k) _ (high-read (look readCount counted) _ (c .before .if1 .left)) (c .counted-up .ensures))
 
 returns-3 : tie.Need-returns-3
 unfolding sizes
 returns-3 c = let a = c .before .before .before .before .before .before .before .before .before .before .before .before .before .args in
     let s = sizes (a .family) in
-    all-ways kview same? (range s) dataMode readOut (a .k) 4 _ (ap (λ p. range (sizes p) dataMode) (c .before .before .before .enum-told2 .given .1)) (ap stands (c .before .before .before .before .before .before .before .before .before .before .before .enum-told .given .1))
-    (next-way kview same? (range s) dataMode readOut (a .k) 2 _ _ _ (c .both3 .ensures)
-    (next-way kview same? (range s) dataMode readOut (a .k) 1 _ _ _ (c .before .before .before .before .before .both2 .ensures)
-    (next-way kview same? (range s) dataMode readOut (a .k) 0 _ _ _ (c .before .before .before .before .before .before .before .before .both .ensures)
-    (first-way kview same? (range s) dataMode readOut (a .k) _ (c .before .before .before .before .before .before .before .before .before .before .with-data .ensures))
+    all-ways kview kview same? (range s) dataMode readOut (a .k) 4 _ (ap (λ p. range (sizes p) dataMode) (c .before .before .before .enum-told2 .given .1)) (ap stands (c .before .before .before .before .before .before .before .before .before .before .before .enum-told .given .1))
+    (next-way kview kview same? (range s) dataMode readOut (a .k) 2 _ _ _ (c .both3 .ensures)
+    (next-way kview kview same? (range s) dataMode readOut (a .k) 1 _ _ _ (c .before .before .before .before .before .both2 .ensures)
+    (next-way kview kview same? (range s) dataMode readOut (a .k) 0 _ _ _ (c .before .before .before .before .before .before .before .before .both .ensures)
+    (first-way kview kview same? (range s) dataMode readOut (a .k) _ (c .before .before .before .before .before .before .before .before .before .before .with-data .ensures))
     (c .before .before .before .before .before .before .before .before .before .with-data2 .ensures))
-    (way kview same? (range s) (look readCount counted) _ _ _ _ _ (c .before .before .before .before .before .before .before .with-data3 .ensures) (c .before .before .before .before .before .before .counted-up2 .ensures)))
-    (way kview same? (range s) (look readCount counted) _ _ _ _ _ (c .before .before .with-data4 .ensures) (c .before .counted-up3 .ensures)))
+    (way kview kview same? (range s) (look readCount counted) _ _ _ _ _ (c .before .before .before .before .before .before .before .with-data3 .ensures) (c .before .before .before .before .before .before .counted-up2 .ensures)))
+    (way kview kview same? (range s) (look readCount counted) _ _ _ _ _ (c .before .before .with-data4 .ensures) (c .before .counted-up3 .ensures)))
 
 returns-4 : tie.Need-returns-4
 unfolding sizes
 returns-4 c = let a = c .before .before .before .before .before .before .before .before .before .before .args in
     let s = sizes (a .family) in
-    all-ways kview same? (range s) dataMode readOut (a .k) 3 _ (ap (λ p. range (sizes p) dataMode) (c .enum-told3 .given .1)) (ap stands (c .before .before .before .before .before .before .before .before .enum-told .given .1))
-    (next-way kview same? (range s) dataMode readOut (a .k) 1 _ _ _ (c .before .before .both2 .ensures)
-    (next-way kview same? (range s) dataMode readOut (a .k) 0 _ _ _ (c .before .before .before .before .before .both .ensures)
-    (first-way kview same? (range s) dataMode readOut (a .k) _ (c .before .before .before .before .before .before .before .with-data .ensures))
+    all-ways kview kview same? (range s) dataMode readOut (a .k) 3 _ (ap (λ p. range (sizes p) dataMode) (c .enum-told3 .given .1)) (ap stands (c .before .before .before .before .before .before .before .before .enum-told .given .1))
+    (next-way kview kview same? (range s) dataMode readOut (a .k) 1 _ _ _ (c .before .before .both2 .ensures)
+    (next-way kview kview same? (range s) dataMode readOut (a .k) 0 _ _ _ (c .before .before .before .before .before .both .ensures)
+    (first-way kview kview same? (range s) dataMode readOut (a .k) _ (c .before .before .before .before .before .before .before .with-data .ensures))
     (c .before .before .before .before .before .before .with-data2 .ensures))
-    (way kview same? (range s) (look readCount counted) _ _ _ _ _ (c .before .before .before .before .with-data3 .ensures) (c .before .before .before .counted-up2 .ensures)))
+    (way kview kview same? (range s) (look readCount counted) _ _ _ _ _ (c .before .before .before .before .with-data3 .ensures) (c .before .before .before .counted-up2 .ensures)))
 
 pub open-out-spec : {M : Type 1} → statement M
 open-out-spec =

@@ -22,7 +22,7 @@ returns c = rw (c .before .match .keys1) (c .open-out .ensures)
 returns-2 : tie.Need-returns-2
 returns-2 c = let a = c .before .args in
     let s = sizes (a .family) in
-    as-rule kview same? (range s) (byteOut (a .place)) nothing (a .k) (a .k) (other-out (look dataMode readOut) (a .place) (c .match .rest .1)) (λ f. refl)
+    as-rule kview kview same? (range s) (byteOut (a .place)) nothing (a .k) (a .k) (other-out (look dataMode readOut) (a .place) (c .match .rest .1)) (λ f. refl)
 
 pub out-at-spec : {M : Type 1} → statement M
 out-at-spec = tie.close (tie.spec open-out-requires returns returns-2)

@@ -1,7 +1,7 @@
 -- `standing::codes::all_within` meets its contract: the codes passed are all within, and the first that is not ends the walk.
 -- Assumes nothing.
+use Rattle.standing.specs.Codes.{all-more, one-beyond, small}
 use borrow.Author.Tests.{not-true, not-false}
-use Rattle.standing.specs.Codes.{all-more, one-beyond}
 use borrow.Author.Needs.{needs}
 use mathlib.Core.Path.{_≡_, refl}
 use native.Mathlib.Omega.{arith}
@@ -33,7 +33,7 @@ code-within-requires c κs = tt
 returns : tie.Need-returns Inv-loop μ-loop
 returns c = let a = c .before .before .before .before .before .before .args in
     let l = c .before .before .before .before .loop in
-    one-beyond (a .codes .now) (a .count) (l .i) (a .limit) _ (c .before .code-within .ensures) (not-true _ (c .if1 .taken)) (c .before .before .before .loop-test .taken) (shared-slice-read-code (c .before .before))
+    (one-beyond (a .codes .now) (a .count) (l .i) (a .limit) _ (c .before .code-within .ensures) (not-true _ (c .if1 .taken)) (c .before .before .before .loop-test .taken) (shared-slice-read-code (c .before .before)), small (a .codes .now) (λ i. c .before .before .before .before .before .shared-slice-known .given i .fits))
 
 add-i : tie.Need-add-i Inv-loop μ-loop
 add-i c = omega arith
@@ -44,10 +44,10 @@ loop-less c = omega arith
 loop-again : tie.Need-loop-again Inv-loop μ-loop
 loop-again c = let a = c .before .before .before .before .before .before .args in
     let l = c .before .before .before .before .loop in
-    (omega arith, all-more (a .codes .now) (l .i) (a .limit) (l .inv .1) (shared-slice-read-code (c .before .before)) (c .before .code-within .ensures .0 (not-false _ (c .if1 .left))))
+    (omega arith, all-more (a .codes .now) (l .i) (a .limit) (l .inv .1) (shared-slice-read-code (c .before .before)) (c .before .code-within .ensures .so (not-false _ (c .if1 .left))))
 
 returns-2 : tie.Need-returns-2 Inv-loop μ-loop
-returns-2 c = ((λ e i h. c .before .loop .inv .1 i (omega arith)), (λ _. refl))
+returns-2 c = (record { so = λ e i h. c .before .loop .inv .1 i (omega arith); back = λ _. refl }, small (c .before .before .before .args .codes .now) (λ i. c .before .before .shared-slice-known .given i .fits))
 
 pub all-within-spec : {M : Type 1} → statement M
 all-within-spec =

@@ -6,10 +6,10 @@ use Rattle.standing.proofs.codes.code_within.Statement.{statement}
 use Rattle.standing.proofs.codes.code_within.Tie as tie
 
 returns : tie.Need-returns
-returns c = simp (eq-eqb _ _ (c .if1 .taken)) ((λ _. tt), (λ _. refl))
+returns c = simp (eq-eqb _ _ (c .if1 .taken)) (record { so = λ _. tt; back = λ _. refl })
 
 returns-2 : tie.Need-returns-2
-returns-2 c = simp (ne-eqb _ _ (c .if1 .left)) ((λ e. ltb-true _ _ e), (λ h. lt-ltb _ _ h))
+returns-2 c = simp (ne-eqb _ _ (c .if1 .left)) (record { so = λ e. ltb-true _ _ e; back = λ h. lt-ltb _ _ h })
 
 pub code-within-spec : {M : Type 1} → statement M
 code-within-spec = tie.close (tie.spec returns returns-2)
