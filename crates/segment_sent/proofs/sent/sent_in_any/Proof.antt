@@ -1,0 +1,79 @@
+-- `segment_sent::sent::sent_in_any` meets its contract: the ways of the data modes come together one after the other.
+-- Assumes nothing.
+use Rattle.knowing.specs.Standing.{Within, Sound}
+use mathlib.Core.Path.{subst, subst⁻¹}
+use native.Mathlib.Omega.{arith}
+use Rattle.segment_sent.specs.Counts.{undriven, mode-room, switches-in}
+use Rattle.segment_sent.specs.declared.report.Sending.the-variants.{NotDriven}
+use Rattle.segment.specs.Sent.{openSent, keySent, switchesSent}
+use Rattle.rules.specs.Rule.{look}
+use Rattle.knowing.specs.Ways.{way, first-way, next-way, all-ways, learns-sound}
+use mathlib.Core.Path.{refl, sym, ap, _∙_}
+use Rattle.segment.specs.Family.{sizes}
+use Rattle.segment.specs.Fact.{same?, range, dataMode, readCount, position, switches}
+use Rattle.segment_sent.specs.Report.{reports}
+use Rattle.segment_knowledge.specs.View.{kview}
+use borrow.Author.Needs.{needs}
+use Rattle.segment_sent.proofs.sent.sent_in_any.Statement.{statement}
+use Rattle.segment_sent.proofs.sent.sent_in_any.Tie as tie
+
+with-data-requires : tie.Need-with-data-requires
+with-data-requires c κs = search needs
+
+keys-sent-requires : tie.Need-keys-sent-requires
+keys-sent-requires c κs = let a = c .before .args in
+    learns-sound kview same? (range (sizes (a .family))) (a .k) _ dataMode 2 (c .with-data .ensures) (mode-room (a .family)) (c .before .pre .0)
+
+both-sent-requires : tie.Need-both-sent-requires
+both-sent-requires c κs = search needs
+
+enum-told : tie.Need-enum-told
+enum-told c = search needs
+
+with-data-requires-2 : tie.Need-with-data-requires-2
+with-data-requires-2 c κs = search needs
+
+switches-sent-requires : tie.Need-switches-sent-requires
+switches-sent-requires c κs = let a = c .before .before .before .before .before .before .args in
+    subst⁻¹ (Within 256) (c .with-data2 .ensures switches) (switches-in (kview (a .k)) (subst (λ p. Sound (range (sizes p)) (kview (a .k))) (c .before .enum-told .given .1) (c .before .before .before .before .before .before .pre .0)))
+
+both-sent-requires-2 : tie.Need-both-sent-requires-2
+both-sent-requires-2 c κs = search needs
+
+enum-told-2 : tie.Need-enum-told-2
+enum-told-2 c = search needs
+
+returns : tie.Need-returns
+unfolding sizes
+returns c = let a = c .before .before .before .before .before .before .before .before .args in
+    let s = sizes (a .family) in
+    all-ways kview reports same? (range s) dataMode (openSent s) (a .k) 4 (c .both-sent2 .result) (ap (λ p. range (sizes p) dataMode) (c .before .before .before .enum-told .given .1)) (c .before .before .before .before .before .before .before .before .pre .1)
+    (next-way kview reports same? (range s) dataMode (openSent s) (a .k) 2 (c .before .before .before .before .before .both-sent .result) (c .before .switches-sent .result) (c .both-sent2 .result) (c .both-sent2 .ensures)
+    (next-way kview reports same? (range s) dataMode (openSent s) (a .k) 1 NotDriven (c .before .before .before .before .before .before .keys-sent .result) (c .before .before .before .before .before .both-sent .result) (c .before .before .before .before .before .both-sent .ensures)
+    (next-way kview reports same? (range s) dataMode (openSent s) (a .k) 0 NotDriven NotDriven NotDriven undriven (first-way kview reports same? (range s) dataMode (openSent s) (a .k) NotDriven (λ _. refl)) (λ _. refl))
+    (way kview reports same? (range s) (look readCount (keySent s)) (a .k) (c .before .before .before .before .before .before .before .with-data .result) (c .before .before .before .before .before .before .keys-sent .result) dataMode 2 (c .before .before .before .before .before .before .before .with-data .ensures) (c .before .before .before .before .before .before .keys-sent .ensures)))
+    (way kview reports same? (range s) (look readCount switchesSent) (a .k) (c .before .before .with-data2 .result) (c .before .switches-sent .result) dataMode 3 (c .before .before .with-data2 .ensures) (c .before .switches-sent .ensures)))
+
+returns-2 : tie.Need-returns-2
+unfolding sizes
+returns-2 c = let a = c .before .before .before .before .before .args in
+    let s = sizes (a .family) in
+    all-ways kview reports same? (range s) dataMode (openSent s) (a .k) 3 (c .before .before .both-sent .result) (ap (λ p. range (sizes p) dataMode) (c .enum-told2 .given .1)) (c .before .before .before .before .before .pre .1)
+    (next-way kview reports same? (range s) dataMode (openSent s) (a .k) 1 NotDriven (c .before .before .before .keys-sent .result) (c .before .before .both-sent .result) (c .before .before .both-sent .ensures)
+    (next-way kview reports same? (range s) dataMode (openSent s) (a .k) 0 NotDriven NotDriven NotDriven undriven (first-way kview reports same? (range s) dataMode (openSent s) (a .k) NotDriven (λ _. refl)) (λ _. refl))
+    (way kview reports same? (range s) (look readCount (keySent s)) (a .k) (c .before .before .before .before .with-data .result) (c .before .before .before .keys-sent .result) dataMode 2 (c .before .before .before .before .with-data .ensures) (c .before .before .before .keys-sent .ensures)))
+
+pub sent-in-any-spec : {M : Type 1} → statement M
+sent-in-any-spec =
+    tie.close
+    (tie.spec
+    with-data-requires
+    keys-sent-requires
+    both-sent-requires
+    enum-told
+    with-data-requires-2
+    switches-sent-requires
+    both-sent-requires-2
+    enum-told-2
+    returns
+    returns-2)

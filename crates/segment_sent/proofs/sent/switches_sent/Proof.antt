@@ -1,0 +1,37 @@
+-- `segment_sent::sent::switches_sent` meets its contract: a known count goes its one way; at an unknown one the ways cannot agree.
+-- Assumes nothing.
+use Rattle.segment_sent.specs.Counts.{switches-unknown}
+use Rattle.segment.specs.Sent.{switchesSent}
+use Rattle.standing.specs.View.{stands}
+use Rattle.knowing.specs.Ways.{known-way}
+use mathlib.Core.Path.{refl, sym, ap, _∙_}
+use Rattle.segment.specs.Family.{sizes}
+use Rattle.segment.specs.Fact.{same?, range, dataMode, readCount, position, switches}
+use Rattle.segment_sent.specs.Report.{reports}
+use Rattle.segment_knowledge.specs.View.{kview}
+use borrow.Author.Needs.{needs}
+use Rattle.segment_sent.proofs.sent.switches_sent.Statement.{statement}
+use Rattle.segment_sent.proofs.sent.switches_sent.Tie as tie
+
+enum-known-count : tie.Need-enum-known-count
+enum-known-count c = search needs
+
+switches-at-requires : tie.Need-switches-at-requires
+switches-at-requires c κs = search needs
+
+enum-told : tie.Need-enum-told
+enum-told c = search needs
+
+returns : tie.Need-returns
+returns c = let a = c .before .before .before .before .args in
+    let s = sizes (a .family) in
+    known-way kview reports same? (range s) readCount switchesSent (a .k) (c .switches-at .result) _ (ap stands (c .before .before .count .given .1)) (c .switches-at .ensures)
+
+returns-2 : tie.Need-returns-2
+returns-2 c = let a = c .before .before .args in
+    let s = sizes (a .family) in
+    λ _. switches-unknown s (kview (a .k)) (ap stands (c .enum-told .given .1)) (c .before .before .pre)
+
+pub switches-sent-spec : {M : Type 1} → statement M
+switches-sent-spec =
+    tie.close (tie.spec enum-known-count switches-at-requires enum-told returns returns-2)
