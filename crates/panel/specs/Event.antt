@@ -1,8 +1,9 @@
 -- The whole answer to one event: paper 01's number and place, and the knowledge, done or refused.
 use Prim.Native.Nat.{ℕ}
-use mathlib.Core.Path.{_≡_}
+use mathlib.Core.Path.{_≡_, subst}
 use Rattle.knowing.specs.Standing.{Sound}
 use Rattle.terms.specs.declared.Event.{Event}
+use Rattle.terms.specs.declared.Place.{Place}
 use Rattle.terms.specs.declared.Part.{Part}
 use Rattle.terms.specs.declared.Part.the-variants.{Pt6302, Pt6312, Pt6315}
 use Rattle.terms.specs.declared.PartRead.{PartRead}
@@ -68,3 +69,6 @@ HearsPart Pt6315 e k r = HearsSegment OfFamily.Pt6315 e k r
 abbrev pub Hears : PartRead → Event → Panel → Heard → Type 0
 Hears (Is p) e k r = HearsPart p e k r
 Hears (Refused at) e k r = RefusedBy 1 k r
+
+pub hears-refused : (q : PartRead) (at : Place) (e : Event) (k : Panel) (r : Heard) → Refused at ≡ q → RefusedBy 1 k r → Hears q e k r
+hears-refused q at e k r p h = subst (λ (x : PartRead). Hears x e k r) p h

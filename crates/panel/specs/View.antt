@@ -16,3 +16,9 @@ pub record KnowsNothing (k : Panel) : Type 0 where
 pub record Where (Good P Q : Type 0) : Type 0 where
   pub good : Good → P
   pub bad : ¬ Good → Q
+
+pub where-good : {Good P Q : Type 0} → Good → P → Where Good P Q
+where-good g p = record { good = λ _. p; bad = λ n. absurd (n g) }
+
+pub where-bad : {Good P Q : Type 0} → ¬ Good → Q → Where Good P Q
+where-bad n q = record { good = λ g. absurd (n g); bad = λ _. q }

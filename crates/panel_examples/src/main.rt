@@ -1,0 +1,40 @@
+// Runs the examples of the file stdin, a line each, and writes each line back with what is known of the panel at its end and the report of
+// the byte to be sent next. It is compared with the file stdout, whose values are from paper 01.
+//
+// A line is a part byte and events as paper 01 records them, in hex. It starts with everything known: `segments::all_known` for PT6312 and
+// PT6315, `characters::all_known` for PT6302, and both for a byte that names no part. Words between the part byte and the events change that. A
+// word begins with a small letter, ends at a space, and of its small letters only the first counts; its numbers are in hex.
+//     position?    the position is unknown
+//     position=01  the position is known as number 1, in range or not
+//     cell07?      memory and keys have a number: cell 07H is unknown
+//     cell07=09    cell 07H is known to be 09H
+//     cell07!      cell 07H has the code 257, which is neither a byte nor unknown
+//     nothing      nothing is known
+// PT6312 and PT6315 have cell, key, every (all cells), address, invalid (the address), data (mode), fixed (or increment), mode, bright
+// (dimming), on, led, switches, reads (the read count) and position. PT6302 has text (DCRAM), shape (CGRAM, columns 00H to 27H) and mark
+// (ADRAM), dcram, glyph and adram (their addresses), column, out (the port), bright (duty), width (digits), lights and position.
+mod characters;
+mod example;
+mod print;
+mod reader;
+mod record;
+mod segments;
+mod show_characters;
+mod show_segments;
+
+use reader::Reader;
+
+fn main() {
+    let mut buffer = io::large_buffer();
+    let n = io::read_full(0, &mut buffer);
+    run(&buffer[..n]);
+}
+
+fn run(examples: &[u8]) {
+    let mut reader = Reader::new();
+    let mut i = 0;
+    while i < examples.len() {
+        reader = reader.read(examples[i]);
+        i += 1;
+    }
+}
