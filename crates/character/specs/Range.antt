@@ -1,6 +1,6 @@
 -- A move keeps every fact in its range. The argument: a form that sets a fact to a value in its range, over forms in range, is in range;
 -- each rule is made of such forms, and what a command carries is in range.
-use Prim.Native.Nat.{ℕ, _+_, _*_, _<_, _/_, _%_}
+use Prim.Native.Nat.{ℕ, _+_, _*_, _<_, _≤_, _/_, _%_}
 use native.Mathlib.Omega.{arith}
 use lib.Dec.{eqb}
 use borrow.Author.Tests.{eqb-false}
@@ -117,3 +117,7 @@ ranged ByteOut h = kept
 -- A move of a chip in range, under an event that carries bytes, gives a chip in range.
 pub stays-good : (e : Event) → Bytes e → (c : Character) (m : Moved) → By (move e) c m → Good range (view c) → Good range (view (m .chip))
 stays-good e h c m b g = moves-good range (move e) (view c) (view (m .chip)) (covers (m .any)) (ranged e h) g b
+
+-- No fact has fewer than two values.
+pub two : (f : Fact) → 2 ≤ range f
+two = every _ (λ i. omega arith) (λ i. omega arith) (λ i. omega arith) (omega arith) (omega arith) (omega arith) (omega arith) (omega arith) (omega arith) (omega arith) (omega arith) (omega arith)

@@ -10,9 +10,10 @@ use character_knowledge::nothing_known;
 use standing::Standing;
 use terms::Address;
 use terms::Event;
-ghost use Rattle.rules.specs.Rule.{gives};
+ghost use Rattle.rules.specs.Rule.{gives, free};
 ghost use Rattle.character.specs.Move.{powered, move};
-ghost use Rattle.character_knowledge.specs.View.{Knows};
+ghost use Rattle.knowing.specs.Ways.{Becomes};
+ghost use Rattle.character_knowledge.specs.View.{kview, Knows};
 
 // The knowledge after an event. Keys, switches and bytes out are no events of this part, and change nothing.
 pub fn moved(k: Knowledge, event: Event) -> Knowledge
@@ -23,12 +24,19 @@ pub fn moved(k: Knowledge, event: Event) -> Knowledge
         Event::Falls => at(k, FIRST),
         Event::ByteIn(byte) => byte_in(k, byte),
         Event::Rises => at(k, IDLE),
-        Event::Gap => nothing_known(),
+        Event::Gap => lost(k),
         Event::Unfinished(_) => at(k, IDLE),
         Event::Keys(_, _, _, _) => k,
         Event::Switches(_) => k,
         Event::ByteOut => k,
     }
+}
+
+// Whatever was known, events were lost.
+fn lost(k: Knowledge) -> Knowledge
+    ensures { λ r. ⌜ Becomes kview (λ f. free) k r ⌝ }
+{
+    nothing_known()
 }
 
 fn at_power(k: Knowledge) -> Knowledge

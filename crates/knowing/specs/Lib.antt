@@ -7,3 +7,6 @@ pub mod Moves
 pub mod Look
 pub mod Ways
 pub mod Changed
+pub mod Range
+pub mod Event
+pub mod Turn

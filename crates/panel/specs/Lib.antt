@@ -1,3 +1,5 @@
 pub mod View
 pub mod Event
 pub mod Report
+pub mod Exact
+pub mod Unique

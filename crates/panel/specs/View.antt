@@ -12,13 +12,7 @@ pub record KnowsNothing (k : Panel) : Type 0 where
   pub segment : (f : Segment.Fact) → OfSegment.kview (k .segment) f ≡ unknown
   pub character : (f : Character.Fact) → OfCharacter.kview (k .character) f ≡ unknown
 
--- P where the test's condition holds, and otherwise Q.
-pub record Where (Good P Q : Type 0) : Type 0 where
-  pub good : Good → P
-  pub bad : ¬ Good → Q
-
-pub where-good : {Good P Q : Type 0} → Good → P → Where Good P Q
-where-good g p = record { good = λ _. p; bad = λ n. absurd (n g) }
-
-pub where-bad : {Good P Q : Type 0} → ¬ Good → Q → Where Good P Q
-where-bad n q = record { good = λ g. absurd (n g); bad = λ _. q }
+-- By a condition: it holds, and P, or it does not, and Q.
+pub data Where (Good P Q : Type 0) : Type 0 where
+  good : Good → P → Where Good P Q
+  bad : ¬ Good → Q → Where Good P Q

@@ -74,7 +74,10 @@ fn setting_told(k: Knowledge, word: u8, fact: Standing) -> Knowledge {
         b'b' => Knowledge { duty: fact, ..k },
         b'w' => Knowledge { digits: fact, ..k },
         b'l' => Knowledge { lights: fact, ..k },
-        b'p' => Knowledge { position: fact, ..k },
+        b'p' => Knowledge {
+            position: fact,
+            ..k
+        },
         _ => k,
     }
 }

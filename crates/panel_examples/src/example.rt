@@ -70,7 +70,7 @@ impl Example {
     }
 
     fn hears(self, event: Event) -> Example {
-        let heard = panel::heard(self.part, self.panel, event);
+        let heard = panel::hear(self.part, self.panel, event);
         let answer = heard.answer;
         let panel = heard.panel;
         Example {

@@ -21,11 +21,7 @@ pub fn hex(byte: u8) {
 }
 
 fn digit(n: u8) -> u8 {
-    if n < 10 {
-        n + 48
-    } else {
-        n % 16 + 55
-    }
+    if n < 10 { n + 48 } else { n % 16 + 55 }
 }
 
 // A name and its number, or that it is unknown.

@@ -60,14 +60,23 @@ pub fn told(k: Knowledge, word: u8, at: u8, code: u16) -> Knowledge {
 fn single_told(k: Knowledge, word: u8, fact: Standing) -> Knowledge {
     match word {
         b'd' => Knowledge { data: fact, ..k },
-        b'f' => Knowledge { stepping: fact, ..k },
+        b'f' => Knowledge {
+            stepping: fact,
+            ..k
+        },
         b'm' => Knowledge { mode: fact, ..k },
         b'b' => Knowledge { dimming: fact, ..k },
         b'o' => Knowledge { display: fact, ..k },
         b'l' => Knowledge { led: fact, ..k },
-        b's' => Knowledge { switches: fact, ..k },
+        b's' => Knowledge {
+            switches: fact,
+            ..k
+        },
         b'r' => Knowledge { count: fact, ..k },
-        b'p' => Knowledge { position: fact, ..k },
+        b'p' => Knowledge {
+            position: fact,
+            ..k
+        },
         _ => k,
     }
 }

@@ -194,3 +194,13 @@ module _ (s : Sizes) (p : Proper s) where
 -- A move of a chip in range, under an event that carries bytes, gives a chip in range.
 pub stays-good : (q : Family) (e : Event) → Bytes e → (c : Segment) (m : Moved) → By (move (sizes q) e) c m → Good (range (sizes q)) (view c) → Good (range (sizes q)) (view (m .chip))
 stays-good q e h c m b g = moves-good (range (sizes q)) (move (sizes q) e) (view c) (view (m .chip)) (covers (m .any)) (ranged (sizes q) (proper q) e h) g b
+
+some : (t : Bool) → 2 ≤ whether t 256 lacking
+some true = omega arith
+some false = omega arith
+
+-- No fact has fewer than two values.
+pub two : (q : Family) (f : Fact) → 2 ≤ range (sizes q) f
+unfolding sizes
+two Pt6312 = every _ (λ i. some (ltb i 22)) (omega arith) (omega arith) (omega arith) (omega arith) (omega arith) (omega arith) (omega arith) (λ i. some (ltb i 3)) (omega arith) (omega arith) (omega arith)
+two Pt6315 = every _ (λ i. some (ltb i 36)) (omega arith) (omega arith) (omega arith) (omega arith) (omega arith) (omega arith) (omega arith) (λ i. some (ltb i 4)) (omega arith) (omega arith) (omega arith)

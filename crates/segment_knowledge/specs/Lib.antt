@@ -1,3 +1,4 @@
 pub mod View
 pub mod Both
 pub mod Ranges
+pub mod Unique

@@ -1,4 +1,3 @@
 pub mod Ways
 pub mod Stored
 pub mod Cells
-pub mod Event

@@ -16,10 +16,11 @@ use segment_knowledge::nothing_known;
 use standing::Standing;
 use terms::Address;
 use terms::Event;
-ghost use Rattle.rules.specs.Rule.{gives};
+ghost use Rattle.rules.specs.Rule.{gives, free};
 ghost use Rattle.segment.specs.Family.{sizes};
 ghost use Rattle.segment.specs.Move.{powered, move};
-ghost use Rattle.segment_knowledge.specs.View.{Knows};
+ghost use Rattle.knowing.specs.Ways.{Becomes};
+ghost use Rattle.segment_knowledge.specs.View.{kview, Knows};
 
 // The knowledge after an event.
 pub fn moved(family: Family, k: Knowledge, event: Event) -> Knowledge
@@ -30,12 +31,19 @@ pub fn moved(family: Family, k: Knowledge, event: Event) -> Knowledge
         Event::Falls => at(k, FIRST),
         Event::ByteIn(byte) => byte_in(family, k, byte),
         Event::Rises => at(k, IDLE),
-        Event::Gap => nothing_known(),
+        Event::Gap => lost(k),
         Event::Unfinished(_) => at(k, IDLE),
         Event::Keys(k0, k1, k2, k3) => keys_latched(family, k, k0, k1, k2, k3),
         Event::Switches(value) => switches_latched(family, k, value),
         Event::ByteOut => byte_out(family, k),
     }
+}
+
+// Whatever was known, events were lost.
+fn lost(k: Knowledge) -> Knowledge
+    ensures { λ r. ⌜ Becomes kview (λ f. free) k r ⌝ }
+{
+    nothing_known()
 }
 
 fn at_power(family: Family, k: Knowledge) -> Knowledge

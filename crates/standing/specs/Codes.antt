@@ -12,6 +12,7 @@ use native.Mathlib.Nat.{mul-lt-mul-of-pos-left}
 use borrow.Author.Tests.{eqb-true, eqb-false, ne-eqb}
 use Rattle.rules.specs.Rule.{Form, value}
 use Rattle.rules.specs.Change.{change}
+use Rattle.rules.specs.Unique.{same-list}
 use Rattle.rules.specs.Choice.{whether}
 use Rattle.knowing.specs.Standing.{Standing, known, unknown, Within}
 use Rattle.knowing.specs.Know.{join, keptIf, lifted}
@@ -201,3 +202,14 @@ pub small : (l : List ℕ) → ((i : ℕ) → getD l i 0 < 65536) → Small l
 small [] h i = omega arith
 small (x ∷ l) h zero = h zero
 small (x ∷ l) h (suc i) = small l (λ j. h (suc j)) i
+
+-- Rows that say the same are equal.
+pub same-row : (n : ℕ) (l m : List ℕ) → length l ≡ n → length m ≡ n → ((i : ℕ) → coded (getD l i 256) ≡ coded (getD m i 256)) → l ≡ m
+same-row n l m ll lm h = same-list n l m ll lm (λ i. at i (decLt i n))
+  where
+    at : (i : ℕ) → Dec (i < n) → getD l i 0 ≡ getD m i 0
+    at i (yes p) = default-free l i 0 256 (omega arith) ∙ one-code (getD l i 256) (getD m i 256) (h i) ∙ default-free m i 256 0 (omega arith)
+    at i (no p) =
+        let x : getD l i 0 ≡ 0 = List·getD-eq-default l 0 (omega arith) in
+        let y : getD m i 0 ≡ 0 = List·getD-eq-default m 0 (omega arith) in
+        x ∙ sym y

@@ -1,10 +1,11 @@
 -- How a single fact and a code are read as known or unknown.
 use Prim.Native.Nat.{ℕ}
-use mathlib.Core.Path.{_≡_, refl, sym, subst⁻¹}
+use mathlib.Core.Path.{_≡_, refl, sym, ap, subst⁻¹}
 use mathlib.Core.Bool.{Bool, true, false, _&&_, true≢false}
 use lib.Dec.{eqb}
 use Rattle.rules.specs.Choice.{whether}
 use Rattle.knowing.specs.Standing as Of
+use Rattle.knowing.specs.Join.{not-known, known-one}
 use Rattle.standing.specs.declared.standing.Standing.{Standing}
 use Rattle.standing.specs.declared.standing.Standing.the-variants.{Known, Unknown}
 
@@ -42,3 +43,10 @@ one-test {a} {b} {P} = go a b
     go true false s t = sym (t .back (s .so refl))
     go false true s t = s .back (t .so refl)
     go false false s t = refl
+
+-- Single facts that say the same are equal.
+pub same-single : (a b : Standing) → stands a ≡ stands b → a ≡ b
+same-single (Known v) (Known w) e = ap Known (known-one v w e)
+same-single (Known v) Unknown e = absurd (not-known v (sym e))
+same-single Unknown (Known w) e = absurd (not-known w e)
+same-single Unknown Unknown e = refl

@@ -2,7 +2,7 @@
 -- Assumes nothing.
 use mathlib.Core.Bool.{true≢false}
 use mathlib.Core.Path.{refl, sym, _∙_}
-use Rattle.panel.specs.View.{where-good, where-bad}
+use Rattle.panel.specs.View.{good, bad}
 use borrow.Author.Needs.{needs}
 use Rattle.panel.proofs.events.segment_heard.Statement.{statement}
 use Rattle.panel.proofs.events.segment_heard.Tie as tie
@@ -14,10 +14,10 @@ moved-requires : tie.Need-moved-requires
 moved-requires c κs = search needs
 
 returns : tie.Need-returns
-returns c = where-good (c .before .before .before .sound .ensures .so (c .before .before .if1 .taken)) (record { numbered = refl; placed = refl; known = c .before .moved .ensures; kept = refl })
+returns c = good (c .before .before .before .sound .ensures .so (c .before .before .if1 .taken)) (record { numbered = refl; placed = refl; known = c .before .moved .ensures; kept = refl })
 
 returns-2 : tie.Need-returns-2
-returns-2 c = where-bad (λ g. true≢false (sym (c .before .sound .ensures .back g) ∙ c .if1 .left)) (record { numbered = refl; placed = refl; kept = refl })
+returns-2 c = bad (λ g. true≢false (sym (c .before .sound .ensures .back g) ∙ c .if1 .left)) (record { numbered = refl; placed = refl; kept = refl })
 
 pub segment-heard-spec : {M : Type 1} → statement M
 segment-heard-spec = tie.close (tie.spec sound-requires moved-requires returns returns-2)

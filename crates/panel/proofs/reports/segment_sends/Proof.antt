@@ -2,7 +2,7 @@
 -- Assumes nothing.
 use mathlib.Core.Bool.{true≢false}
 use mathlib.Core.Path.{refl, sym, _∙_}
-use Rattle.panel.specs.View.{where-good, where-bad}
+use Rattle.panel.specs.View.{good, bad}
 use borrow.Author.Needs.{needs}
 use Rattle.panel.proofs.reports.segment_sends.Statement.{statement}
 use Rattle.panel.proofs.reports.segment_sends.Tie as tie
@@ -14,10 +14,10 @@ sent-next-requires : tie.Need-sent-next-requires
 sent-next-requires c κs = c .before .sound .ensures .so (c .if1 .taken)
 
 returns : tie.Need-returns
-returns c = where-good (c .before .before .sound .ensures .so (c .before .if1 .taken)) (record { numbered = refl; placed = refl; told = c .sent-next .ensures tt })
+returns c = good (c .before .before .sound .ensures .so (c .before .if1 .taken)) (record { numbered = refl; placed = refl; told = c .sent-next .ensures tt })
 
 returns-2 : tie.Need-returns-2
-returns-2 c = where-bad (λ g. true≢false (sym (c .before .sound .ensures .back g) ∙ c .if1 .left)) (record { numbered = refl; placed = refl; told = refl })
+returns-2 c = bad (λ g. true≢false (sym (c .before .sound .ensures .back g) ∙ c .if1 .left)) (record { numbered = refl; placed = refl; told = refl })
 
 pub segment-sends-spec : {M : Type 1} → statement M
 segment-sends-spec = tie.close (tie.spec sound-requires sent-next-requires returns returns-2)

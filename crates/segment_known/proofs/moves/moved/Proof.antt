@@ -38,8 +38,8 @@ at-requires-2 c κs = search needs
 enum-told-4 : tie.Need-enum-told-4
 enum-told-4 c = search needs
 
-nothing-known-requires : tie.Need-nothing-known-requires
-nothing-known-requires c κs = search needs
+lost-requires : tie.Need-lost-requires
+lost-requires c κs = search needs
 
 enum-told-5 : tie.Need-enum-told-5
 enum-told-5 c = search needs
@@ -88,7 +88,7 @@ returns-4 c = let a = c .before .before .before .args in
 returns-5 : tie.Need-returns-5
 returns-5 c = let a = c .before .before .before .args in
     let s = sizes (a .family) in
-    as-rule kview kview same? (range s) _ _ (a .k) _ (ap (move s) (c .before .enum-told4 .given .1)) (c .nothing-known .ensures)
+    as-rule kview kview same? (range s) _ _ (a .k) _ (ap (move s) (c .before .enum-told4 .given .1)) (c .lost .ensures)
 
 returns-6 : tie.Need-returns-6
 returns-6 c = let a = c .before .before .before .args in
@@ -123,7 +123,7 @@ moved-spec =
     enum-told-3
     at-requires-2
     enum-told-4
-    nothing-known-requires
+    lost-requires
     enum-told-5
     at-requires-3
     enum-known-event-2

@@ -1,0 +1,54 @@
+-- Two knowledges that say the same are equal. The argument: there is one code for each standing, and each field is that of a fact.
+use mathlib.Core.Path.{_≡_, refl, sym}
+use lib.ListN.{length}
+use Rattle.knowing.specs.Join.{not-known, known-one}
+use Rattle.standing.specs.View.{same-single}
+use Rattle.standing.specs.Codes.{same-row}
+use Rattle.character.specs.Fact.{Fact, dcram, cgram, adram, dcramAt, cgramAt, adramAt, column, port, duty, digits, lights, position}
+use Rattle.character_knowledge.specs.declared.knowledge.Pointing.{Pointing}
+use Rattle.character_knowledge.specs.declared.knowledge.Pointing.the-variants.{At, Unknown}
+use Rattle.character_knowledge.specs.declared.knowledge.Knowledge.{Knowledge}
+use Rattle.character_knowledge.specs.View.{points, kview}
+
+-- The rows are as long as the arrays of the type. This holds of every knowledge that code hands over.
+pub record Shaped (k : Knowledge) : Type 0 where
+  pub dcram : length (k .dcram) ≡ 16
+  pub cgram : length (k .cgram) ≡ 40
+  pub adram : length (k .adram) ≡ 16
+
+same-pointing : (a b : Pointing) → points a ≡ points b → a ≡ b
+same-pointing (At x) (At y) e =
+    let z : x .0 ≡ y .0 = known-one (x .0) (y .0) e in
+    λ i. At (record { 0 = z i })
+same-pointing (At x) Unknown e = absurd (not-known (x .0) (sym e))
+same-pointing Unknown (At y) e = absurd (not-known (y .0) e)
+same-pointing Unknown Unknown e = refl
+
+pub same-knowledge : (a b : Knowledge) → Shaped a → Shaped b → ((f : Fact) → kview a f ≡ kview b f) → a ≡ b
+same-knowledge a b sa sb h =
+    let ds = same-row 16 (a .dcram) (b .dcram) (sa .dcram) (sb .dcram) (λ i. h (dcram i)) in
+    let gs = same-row 40 (a .cgram) (b .cgram) (sa .cgram) (sb .cgram) (λ i. h (cgram i)) in
+    let aa = same-row 16 (a .adram) (b .adram) (sa .adram) (sb .adram) (λ i. h (adram i)) in
+    let d = same-pointing (a .«dcram_at») (b .«dcram_at») (h dcramAt) in
+    let g = same-pointing (a .«cgram_at») (b .«cgram_at») (h cgramAt) in
+    let m = same-pointing (a .«adram_at») (b .«adram_at») (h adramAt) in
+    let c = same-single (a .column) (b .column) (h column) in
+    let p = same-single (a .port) (b .port) (h port) in
+    let u = same-single (a .duty) (b .duty) (h duty) in
+    let n = same-single (a .digits) (b .digits) (h digits) in
+    let l = same-single (a .lights) (b .lights) (h lights) in
+    let q = same-single (a .position) (b .position) (h position) in
+    λ i. record {
+      dcram = ds i;
+      cgram = gs i;
+      adram = aa i;
+      «dcram_at» = d i;
+      «cgram_at» = g i;
+      «adram_at» = m i;
+      column = c i;
+      port = p i;
+      duty = u i;
+      digits = n i;
+      lights = l i;
+      position = q i;
+    }
