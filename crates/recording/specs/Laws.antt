@@ -1,0 +1,47 @@
+-- The kinds that a match of the code does not name, and the record at a place.
+use Prim.Native.Nat.{ℕ, _+_, _-_, _<_, _≤_}
+use native.Mathlib.Omega.{arith}
+use mathlib.Core.Path.{_≡_, refl, sym, ap, _∙_}
+use mathlib.Core.Bool.{true, false}
+use mathlib.Core.List.{List}
+use lib.ListN.{length, getD, drop, length-drop}
+use lib.Seq.{getD-drop}
+use borrow.Author.Tests.{ne-eqb, lt-ltb, le-ltb}
+use Rattle.terms.specs.declared.Event.the-variants.{ByteOut}
+use Rattle.terms.specs.declared.Part.{Part}
+use Rattle.recording.specs.declared.read.Read.{Read}
+use Rattle.recording.specs.declared.read.Read.the-variants.{Is, Refused}
+use Rattle.recording.specs.declared.read.Refusal.the-variants.{Unlisted, Foreign, CutShort}
+use Rattle.recording.specs.Record.{listed, belongs, bodyOf, ofBody, ofKind, front}
+
+pub no-body : (k : ℕ) → ¬ (k ≡ 3) → ¬ (k ≡ 6) → ¬ (k ≡ 7) → ¬ (k ≡ 8) → bodyOf k ≡ 0
+no-body k three six seven eight = rw (ne-eqb k 7 seven, ne-eqb k 3 three, ne-eqb k 6 six, ne-eqb k 8 eight) refl
+
+pub no-inputs : (p : Part) (k : ℕ) → ¬ (k ≡ 7) → ¬ (k ≡ 8) → ¬ (k ≡ 9) → belongs p k ≡ true
+no-inputs p k seven eight nine = rw (ne-eqb k 7 seven, ne-eqb k 9 nine, ne-eqb k 8 eight) refl
+
+pub other-body : (p : Part) (k : ℕ) (l : List ℕ) → ¬ (k ≡ 1) → ¬ (k ≡ 2) → ¬ (k ≡ 3) → ¬ (k ≡ 4) → ¬ (k ≡ 5) → ¬ (k ≡ 6) → ¬ (k ≡ 7) → ¬ (k ≡ 8) → ofBody p k l ≡ Is ByteOut 1
+other-body p k l one two three four five six seven eight =
+    rw (ne-eqb k 6 six, ne-eqb k 8 eight, ne-eqb k 7 seven, ne-eqb k 1 one, ne-eqb k 2 two, ne-eqb k 3 three, ne-eqb k 4 four, ne-eqb k 5 five) refl
+
+-- The record at a place, test by test.
+module _ (p : Part) (l : List ℕ) (i : ℕ) where
+  abbrev kind : ℕ
+  kind = getD l i 0
+
+  front-at : front p (drop i l) ≡ ofKind p kind (drop i l)
+  front-at =
+      let e : i + 0 ≡ i = omega arith in
+      ap (λ (k : ℕ). ofKind p k (drop i l)) (getD-drop i l 0 0 ∙ ap (λ (n : ℕ). getD l n 0) e)
+
+  pub at-unlisted : listed kind ≡ false → Refused Unlisted ≡ front p (drop i l)
+  at-unlisted e = sym (front-at ∙ rw e refl)
+
+  pub at-foreign : listed kind ≡ true → belongs p kind ≡ false → Refused Foreign ≡ front p (drop i l)
+  at-foreign e f = sym (front-at ∙ rw (e, f) refl)
+
+  pub at-cut : listed kind ≡ true → belongs p kind ≡ true → length l - i ≤ bodyOf kind → Refused CutShort ≡ front p (drop i l)
+  at-cut e f h = sym (front-at ∙ rw (e, f, le-ltb (bodyOf kind) (length (drop i l)) (rw (length-drop i l) h)) refl)
+
+  pub at-body : (r : Read) → listed kind ≡ true → belongs p kind ≡ true → bodyOf kind < length l - i → r ≡ ofBody p kind (drop i l) → r ≡ front p (drop i l)
+  at-body r e f h q = q ∙ sym (front-at ∙ rw (e, f, lt-ltb (bodyOf kind) (length (drop i l)) (rw (length-drop i l) h)) refl)

@@ -1,0 +1,32 @@
+-- Records from the front, one after the other: where each starts, its event, and how they end.
+use Prim.Native.Nat.{ℕ, zero, suc, _+_}
+use mathlib.Core.List.{List, [], _∷_}
+use lib.ListN.{length, drop}
+use Rattle.terms.specs.declared.Event.{Event}
+use Rattle.terms.specs.declared.Part.{Part}
+use Rattle.recording.specs.declared.read.Read.{Read}
+use Rattle.recording.specs.declared.read.Read.the-variants.{Is, Refused}
+use Rattle.recording.specs.declared.read.Refusal.{Refusal}
+use Rattle.recording.specs.Record.{front}
+
+-- Done at the end; or refused at the place of the record's first byte; or a record at a place, and what follows it.
+pub data Walk : Type 0 where
+  done : Walk
+  stops : Refusal → ℕ → Walk
+  next : ℕ → Event → Walk → Walk
+
+-- At most `steps` records, from the byte at the place `at` on.
+abbrev pub walk : ℕ → Part → ℕ → List ℕ → Walk
+walk zero p at l = done
+walk (suc n) p at [] = done
+walk (suc n) p at (b ∷ l) = elim (front p (b ∷ l)) [ Is e m ↦ next at e (walk n p (at + m) (drop m (b ∷ l))) | Refused r ↦ stops r at ]
+
+-- A recording has no more records than bytes.
+abbrev pub walked : Part → List ℕ → Walk
+walked p l = walk (length l) p 0 l
+
+-- The events of the records.
+abbrev pub events : Walk → List Event
+events done = []
+events (stops r at) = []
+events (next at e w) = e ∷ events w

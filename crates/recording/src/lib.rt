@@ -1,0 +1,7 @@
+// The recording: one record at its front, as an event, or why it is none.
+mod bodies;
+mod read;
+
+pub use read::Read;
+pub use read::Refusal;
+pub use read::record_at;
