@@ -1,3 +1,4 @@
 pub mod Record
 pub mod Walk
 pub mod Laws
+pub mod Steps

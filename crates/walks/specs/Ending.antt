@@ -1,0 +1,25 @@
+-- How a walk ends, and what it leaves.
+use Prim.Native.Nat.{ℕ}
+use mathlib.Core.Path.{_≡_}
+use mathlib.Core.List.{List, map}
+use Rattle.rules.specs.Rule.{Rule}
+use Rattle.knowing.specs.Standing.{Standing}
+use Rattle.knowing.specs.Turn.{inTurn}
+use Rattle.terms.specs.declared.Event.{Event}
+use Rattle.recording.specs.Walk.{Walk, done, stops, next, events}
+use Rattle.walks.specs.declared.ending.Ending.{Ending}
+use Rattle.walks.specs.declared.ending.Ending.the-variants.{Done, Stops}
+
+abbrev pub endOf : Walk → Ending
+endOf done = Done
+endOf (stops r at) = Stops r (record { 0 = at })
+endOf (next at e w) = endOf w
+
+-- P where the walk is done, Q where it stops.
+abbrev pub Left : Ending → Type 0 → Type 0 → Type 0
+Left Done P Q = P
+Left (Stops r at) P Q = Q
+
+-- The knowledge r is what the events, in turn, make of k.
+abbrev pub InTurn : {F K : Type 0} → (K → F → Standing) → Discrete F → (F → ℕ) → (Event → Rule F F) → List Event → K → K → Type 0
+InTurn {F} view same? range move es k r = (f : F) → view r f ≡ inTurn same? range (map move es) (view k) f

@@ -1,0 +1,4 @@
+pub mod Ending
+pub mod Kept
+pub mod Segment
+pub mod Character

@@ -1,0 +1,19 @@
+-- What the walk promises for PT6312 and PT6315.
+use Prim.Native.Nat.{ℕ}
+use mathlib.Core.Path.{_≡_}
+use mathlib.Core.List.{List}
+use Rattle.terms.specs.declared.Part.{Part}
+use Rattle.recording.specs.Walk.{walked, events}
+use Rattle.segment.specs.declared.chip.Family.{Family}
+use Rattle.segment.specs.Family.{sizes}
+use Rattle.segment.specs.Fact.{same?, range}
+use Rattle.segment.specs.Move.{move}
+use Rattle.segment_knowledge.specs.declared.knowledge.Knowledge.{Knowledge}
+use Rattle.segment_knowledge.specs.View.{kview}
+use Rattle.walks.specs.declared.segments.SegmentWalked.{SegmentWalked}
+use Rattle.walks.specs.Ending.{endOf, Left, InTurn}
+
+-- The records from the front, each by 5, 6, 7, 8; the events in turn, or the knowledge as it was.
+pub record Walks (part : Part) (p : Family) (k : Knowledge) (l : List ℕ) (r : SegmentWalked) : Type 0 where
+  pub ended : r .ending ≡ endOf (walked part l)
+  pub left : Left (r .ending) (InTurn kview same? (range (sizes p)) (move (sizes p)) (events (walked part l)) k (r .k)) (r .k ≡ k)

@@ -1,0 +1,10 @@
+// How a walk ends.
+use recording::Refusal;
+use terms::Place;
+
+pub enum Ending {
+    // Behind the last record.
+    Done,
+    // At a record that is none, with its place.
+    Stops(Refusal, Place),
+}
