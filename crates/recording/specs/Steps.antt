@@ -11,13 +11,17 @@ use lib.Dec.{ltb}
 use borrow.Author.Tests.{ltb-true}
 use Rattle.rules.specs.Choice.{whether, whether-all}
 use Rattle.terms.specs.declared.Event.{Event}
+use Rattle.terms.specs.declared.Event.the-variants.{Power, Falls, ByteIn, Rises, Gap, Unfinished, Keys, Switches, ByteOut}
+use Rattle.terms.specs.declared.Place.{Place}
 use Rattle.terms.specs.declared.Part.{Part}
 use Rattle.recording.specs.declared.read.Read.{Read}
 use Rattle.recording.specs.declared.read.Read.the-variants.{Is, Refused}
 use Rattle.recording.specs.declared.read.Refusal.{Refusal}
 use Rattle.recording.specs.declared.read.Refusal.the-variants.{Unlisted, Foreign, CutShort, Forbidden}
 use Rattle.recording.specs.Record.{listed, belongs, bodyOf, allowed, eventOf, ofBody, front}
-use Rattle.recording.specs.Walk.{Walk, done, stops, next, walk, walked}
+use Rattle.recording.specs.declared.ending.Ending.{Ending}
+use Rattle.recording.specs.declared.ending.Ending.the-variants.{Done, Stops}
+use Rattle.recording.specs.Walk.{Walk, done, stops, next, walk, walked, endOf, onGap, behindGap}
 
 -- A record has a first byte, and ends within the bytes.
 Fits : List ℕ → Read → Type 0
@@ -99,3 +103,55 @@ module _ (p : Part) (l : List ℕ) (i : ℕ) where
           let d = length-drop m (drop i l) in
           enough n (length (drop m (drop i l))) p (i + m) (drop m (drop i l)) (omega (arith, d, f, z)) (omega arith)
           ∙ ap (λ (x : List ℕ). walk (length x) p (i + m) x) (drop-drop m i l)
+
+-- A refusal's place is within the bytes.
+Placed : ℕ → Ending → Type 0
+Placed n Done = Unit
+Placed n (Stops r at) = at .0 < n
+
+placed : (n : ℕ) (p : Part) (at : ℕ) (l : List ℕ) → Placed (at + length l) (endOf (walk n p at l))
+unfolding Placed
+placed zero p at l = tt
+placed (suc n) p at [] = tt
+placed (suc n) p at (b ∷ l) = go (front p (b ∷ l)) refl (λ m. placed n p (at + m) (drop m (b ∷ l)))
+  where
+    go : (r : Read) → front p (b ∷ l) ≡ r → ((m : ℕ) → Placed (at + m + length (drop m (b ∷ l))) (endOf (walk n p (at + m) (drop m (b ∷ l)))))
+        → Placed (at + length (b ∷ l)) (endOf (elim r [ Is e m ↦ next at e (walk n p (at + m) (drop m (b ∷ l))) | Refused x ↦ stops x at ]))
+    go (Is e m) q ih =
+        let f = record-fits p (b ∷ l) e m q in
+        let d = length-drop m (b ∷ l) in
+        let z : at + m + length (drop m (b ∷ l)) ≡ at + length (b ∷ l) = omega (arith, f, d) in
+        subst (λ (k : ℕ). Placed k (endOf (walk n p (at + m) (drop m (b ∷ l))))) z (ih m)
+    go (Refused x) q ih = omega arith
+
+pub stops-within : (p : Part) (l : List ℕ) (r : Refusal) (at : Place) → endOf (walked p l) ≡ Stops r at → at .0 < length l
+unfolding Placed
+stops-within p l r at e =
+    let z : 0 + length l ≡ length l = omega arith in
+    subst (λ (n : ℕ). at .0 < n) z (subst (Placed (0 + length l)) e (placed (length l) p 0 l))
+
+-- The place behind the last gap is within the bytes.
+pub gap-within : (n : ℕ) (p : Part) (from at : ℕ) (l : List ℕ) → from ≤ at → behindGap from (walk n p at l) ≤ at + length l
+gap-within zero p from at l h = omega arith
+gap-within (suc n) p from at [] h = omega arith
+gap-within (suc n) p from at (b ∷ l) h = go (front p (b ∷ l)) refl (λ m f g. gap-within n p f (at + m) (drop m (b ∷ l)) g)
+  where
+    onward : (e : Event) (m : ℕ) → 1 ≤ m → onGap e (at + 1) from ≤ at + m
+    onward Power m g = omega arith
+    onward Falls m g = omega arith
+    onward (ByteIn x) m g = omega arith
+    onward Rises m g = omega arith
+    onward Gap m g = omega arith
+    onward (Unfinished x) m g = omega arith
+    onward (Keys k0 k1 k2 k3) m g = omega arith
+    onward (Switches v) m g = omega arith
+    onward ByteOut m g = omega arith
+
+    go : (r : Read) → front p (b ∷ l) ≡ r → ((m f : ℕ) → f ≤ at + m → behindGap f (walk n p (at + m) (drop m (b ∷ l))) ≤ at + m + length (drop m (b ∷ l)))
+        → behindGap from (elim r [ Is e m ↦ next at e (walk n p (at + m) (drop m (b ∷ l))) | Refused x ↦ stops x at ]) ≤ at + length (b ∷ l)
+    go (Is e m) q ih =
+        let f = record-fits p (b ∷ l) e m q in
+        let d = length-drop m (b ∷ l) in
+        let i = ih m (onGap e (at + 1) from) (onward e m (f .0)) in
+        omega (arith, f, d, i)
+    go (Refused x) q ih = omega arith

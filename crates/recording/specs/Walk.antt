@@ -3,10 +3,13 @@ use Prim.Native.Nat.{ℕ, zero, suc, _+_}
 use mathlib.Core.List.{List, [], _∷_}
 use lib.ListN.{length, drop}
 use Rattle.terms.specs.declared.Event.{Event}
+use Rattle.terms.specs.declared.Event.the-variants.{Power, Falls, ByteIn, Rises, Gap, Unfinished, Keys, Switches, ByteOut}
 use Rattle.terms.specs.declared.Part.{Part}
 use Rattle.recording.specs.declared.read.Read.{Read}
 use Rattle.recording.specs.declared.read.Read.the-variants.{Is, Refused}
 use Rattle.recording.specs.declared.read.Refusal.{Refusal}
+use Rattle.recording.specs.declared.ending.Ending.{Ending}
+use Rattle.recording.specs.declared.ending.Ending.the-variants.{Done, Stops}
 use Rattle.recording.specs.Record.{front}
 
 -- Done at the end; or refused at the place of the record's first byte; or a record at a place, and what follows it.
@@ -30,3 +33,27 @@ abbrev pub events : Walk → List Event
 events done = []
 events (stops r at) = []
 events (next at e w) = e ∷ events w
+
+-- One thing for a gap, another for any other event.
+abbrev pub onGap : Event → ℕ → ℕ → ℕ
+onGap Power x y = y
+onGap Falls x y = y
+onGap (ByteIn b) x y = y
+onGap Rises x y = y
+onGap Gap x y = x
+onGap (Unfinished n) x y = y
+onGap (Keys k0 k1 k2 k3) x y = y
+onGap (Switches v) x y = y
+onGap ByteOut x y = y
+
+-- How a walk ends, as code answers it.
+abbrev pub endOf : Walk → Ending
+endOf done = Done
+endOf (stops r at) = Stops r (record { 0 = at })
+endOf (next at e w) = endOf w
+
+-- The place behind the last gap record, or `from` where there is none. A body byte 05 is no record.
+abbrev pub behindGap : ℕ → Walk → ℕ
+behindGap from done = from
+behindGap from (stops r at) = from
+behindGap from (next at e w) = behindGap (onGap e (at + 1) from) w

@@ -3,13 +3,13 @@ use Prim.Native.Nat.{ℕ}
 use mathlib.Core.Path.{_≡_}
 use mathlib.Core.List.{List}
 use Rattle.terms.specs.declared.Part.{Part}
-use Rattle.recording.specs.Walk.{walked, events}
+use Rattle.recording.specs.Walk.{walked, events, endOf}
 use Rattle.character.specs.Fact.{same?, range}
 use Rattle.character.specs.Move.{move}
 use Rattle.character_knowledge.specs.declared.knowledge.Knowledge.{Knowledge}
 use Rattle.character_knowledge.specs.View.{kview}
 use Rattle.walks.specs.declared.characters.CharacterWalked.{CharacterWalked}
-use Rattle.walks.specs.Ending.{endOf, Left, InTurn}
+use Rattle.walks.specs.Left.{Left, InTurn}
 
 pub record Walks (part : Part) (k : Knowledge) (l : List ℕ) (r : CharacterWalked) : Type 0 where
   pub ended : r .ending ≡ endOf (walked part l)

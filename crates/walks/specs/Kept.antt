@@ -8,11 +8,11 @@ use Rattle.knowing.specs.Know.{know}
 use Rattle.knowing.specs.Turn.{inTurn, in-turn-same}
 use Rattle.knowing.specs.Ways.{Knows}
 use Rattle.terms.specs.declared.Event.{Event}
-use Rattle.recording.specs.Walk.{Walk, done, stops, next, events}
+use Rattle.recording.specs.Walk.{Walk, done, stops, next, events, endOf}
 use Rattle.recording.specs.declared.read.Refusal.{Refusal}
-use Rattle.walks.specs.declared.ending.Ending.{Ending}
-use Rattle.walks.specs.declared.ending.Ending.the-variants.{Done, Stops}
-use Rattle.walks.specs.Ending.{endOf, InTurn}
+use Rattle.recording.specs.declared.ending.Ending.{Ending}
+use Rattle.recording.specs.declared.ending.Ending.the-variants.{Done, Stops}
+use Rattle.walks.specs.Left.{InTurn}
 
 module _ {F K : Type 0} (view : K → F → Standing) (same? : Discrete F) (range : F → ℕ) (move : Event → Rule F F) where
   pub record Kept (whole : Walk) (first : K) (rest : Walk) (k : K) : Type 0 where

@@ -1,4 +1,4 @@
-pub mod Ending
+pub mod Left
 pub mod Kept
 pub mod Segment
 pub mod Character

@@ -3,7 +3,7 @@ use Prim.Native.Nat.{ℕ}
 use mathlib.Core.Path.{_≡_}
 use mathlib.Core.List.{List}
 use Rattle.terms.specs.declared.Part.{Part}
-use Rattle.recording.specs.Walk.{walked, events}
+use Rattle.recording.specs.Walk.{walked, events, endOf}
 use Rattle.segment.specs.declared.chip.Family.{Family}
 use Rattle.segment.specs.Family.{sizes}
 use Rattle.segment.specs.Fact.{same?, range}
@@ -11,7 +11,7 @@ use Rattle.segment.specs.Move.{move}
 use Rattle.segment_knowledge.specs.declared.knowledge.Knowledge.{Knowledge}
 use Rattle.segment_knowledge.specs.View.{kview}
 use Rattle.walks.specs.declared.segments.SegmentWalked.{SegmentWalked}
-use Rattle.walks.specs.Ending.{endOf, Left, InTurn}
+use Rattle.walks.specs.Left.{Left, InTurn}
 
 -- The records from the front, each by 5, 6, 7, 8; the events in turn, or the knowledge as it was.
 pub record Walks (part : Part) (p : Family) (k : Knowledge) (l : List ℕ) (r : SegmentWalked) : Type 0 where

@@ -1,7 +1,7 @@
 // The walk for PT6302.
-use crate::ending::Ending;
 use character_knowledge::Knowledge;
 use character_known::moved;
+use recording::Ending;
 use recording::Read;
 use recording::record_at;
 use terms::Part;

@@ -1,10 +1,8 @@
 // The records of a recording, one after the other, taken through a knowledge.
 mod characters;
-mod ending;
 mod segments;
 
 pub use characters::CharacterWalked;
 pub use characters::character_walk;
-pub use ending::Ending;
 pub use segments::SegmentWalked;
 pub use segments::segment_walk;

@@ -1,5 +1,5 @@
 // The walk for PT6312 and PT6315.
-use crate::ending::Ending;
+use recording::Ending;
 use recording::Read;
 use recording::record_at;
 use segment::Family;

@@ -8,7 +8,6 @@ use Prim.Native.Nat.{_≤_, _-_}
 use lib.ListN.{length, drop, length-drop}
 use Rattle.recording.specs.Steps.{rest, rest-end, rest-next, rest-stops, record-fits}
 use Rattle.recording.specs.Walk.{walked, done, next}
-use Rattle.walks.specs.Ending.{Left}
 use Rattle.walks.specs.Kept.{Kept, kept-start, kept-next, kept-as, kept-done, kept-stops}
 use Rattle.segment_knowledge.specs.View.{kview}
 use Rattle.segment.specs.Move.{move}

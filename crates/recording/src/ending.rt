@@ -1,5 +1,5 @@
 // How a walk ends.
-use recording::Refusal;
+use crate::read::Refusal;
 use terms::Place;
 
 pub enum Ending {

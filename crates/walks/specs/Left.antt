@@ -1,4 +1,4 @@
--- How a walk ends, and what it leaves.
+-- What a walk leaves.
 use Prim.Native.Nat.{ℕ}
 use mathlib.Core.Path.{_≡_}
 use mathlib.Core.List.{List, map}
@@ -6,14 +6,8 @@ use Rattle.rules.specs.Rule.{Rule}
 use Rattle.knowing.specs.Standing.{Standing}
 use Rattle.knowing.specs.Turn.{inTurn}
 use Rattle.terms.specs.declared.Event.{Event}
-use Rattle.recording.specs.Walk.{Walk, done, stops, next, events}
-use Rattle.walks.specs.declared.ending.Ending.{Ending}
-use Rattle.walks.specs.declared.ending.Ending.the-variants.{Done, Stops}
-
-abbrev pub endOf : Walk → Ending
-endOf done = Done
-endOf (stops r at) = Stops r (record { 0 = at })
-endOf (next at e w) = endOf w
+use Rattle.recording.specs.declared.ending.Ending.{Ending}
+use Rattle.recording.specs.declared.ending.Ending.the-variants.{Done, Stops}
 
 -- P where the walk is done, Q where it stops.
 abbrev pub Left : Ending → Type 0 → Type 0 → Type 0

@@ -1,0 +1,35 @@
+-- Paper 01's number and place for each answer of a replay.
+use Prim.Native.Nat.{ℕ}
+use mathlib.Core.Path.{_≡_}
+use Rattle.panel.specs.declared.knowledge.Panel.{Panel}
+use Rattle.replay.specs.declared.answer.Answer.{Answer}
+use Rattle.replay.specs.declared.answer.Answer.the-variants.{Done, NoPart, OutOfRange, BeyondEnd, TooLong, Unlisted, Foreign, CutShort, Forbidden}
+use Rattle.replay.specs.declared.answer.Replayed.{Replayed}
+
+abbrev pub number : Answer → ℕ
+number (Done at) = 0
+number (NoPart at) = 1
+number (OutOfRange at) = 2
+number (BeyondEnd at) = 3
+number (TooLong at) = 4
+number (Unlisted at) = 5
+number (Foreign at) = 6
+number (CutShort at) = 7
+number (Forbidden at) = 8
+
+abbrev pub place : Answer → ℕ
+place (Done at) = at .0
+place (NoPart at) = at .0
+place (OutOfRange at) = at .0
+place (BeyondEnd at) = at .0
+place (TooLong at) = at .0
+place (Unlisted at) = at .0
+place (Foreign at) = at .0
+place (CutShort at) = at .0
+place (Forbidden at) = at .0
+
+-- Refused with the number n at a place: the knowledge comes back as handed in.
+pub record RefusedBy (n at : ℕ) (k : Panel) (r : Replayed) : Type 0 where
+  pub numbered : number (r .answer) ≡ n
+  pub placed : place (r .answer) ≡ at
+  pub kept : r .panel ≡ k

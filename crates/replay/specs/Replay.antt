@@ -1,0 +1,85 @@
+-- The whole answer of a replay: number, place and knowledge, on good and on refused calls.
+use Prim.Native.Nat.{ℕ, _+_, _≤_}
+use mathlib.Core.Path.{_≡_, subst}
+use mathlib.Core.List.{List}
+use lib.ListN.{length, drop}
+use Rattle.knowing.specs.Standing.{Sound}
+use Rattle.terms.specs.declared.Event.{Event}
+use Rattle.terms.specs.declared.Place.{Place}
+use Rattle.terms.specs.declared.Part.{Part}
+use Rattle.terms.specs.declared.Part.the-variants.{Pt6302, Pt6312, Pt6315}
+use Rattle.terms.specs.declared.PartRead.{PartRead}
+use Rattle.terms.specs.declared.PartRead.the-variants.{Is, Refused}
+use Rattle.recording.specs.Record as Record
+use Rattle.recording.specs.Walk.{Walk, walked, events, endOf}
+use Rattle.recording.specs.declared.ending.Ending.{Ending}
+use Rattle.recording.specs.declared.ending.Ending.the-variants.{Done, Stops}
+use Rattle.walks.specs.Left.{InTurn}
+use Rattle.segment.specs.declared.chip.Family.{Family}
+use Rattle.segment.specs.declared.chip.Family.the-variants as OfFamily
+use Rattle.segment.specs.Family.{sizes}
+use Rattle.segment.specs.Fact as SegmentFact
+use Rattle.segment.specs.Move as SegmentMove
+use Rattle.segment_knowledge.specs.View as OfSegment
+use Rattle.character.specs.Fact as CharacterFact
+use Rattle.character.specs.Move as CharacterMove
+use Rattle.character_knowledge.specs.View as OfCharacter
+use Rattle.panel.specs.declared.knowledge.Panel.{Panel}
+use Rattle.panel.specs.View.{Where}
+use Rattle.replay.specs.declared.answer.Replayed.{Replayed}
+use Rattle.replay.specs.Answer.{number, place, RefusedBy}
+
+-- Done: number 0 and the recording's length; the events in turn, and the other half kept.
+pub record SegmentDone (p : Family) (es : List Event) (k : Panel) (l : List ℕ) (r : Replayed) : Type 0 where
+  pub numbered : number (r .answer) ≡ 0
+  pub placed : place (r .answer) ≡ length l
+  pub known : InTurn OfSegment.kview SegmentFact.same? (SegmentFact.range (sizes p)) (SegmentMove.move (sizes p)) es (k .segment) (r .panel .segment)
+  pub kept : r .panel .character ≡ k .character
+
+pub record CharacterDone (es : List Event) (k : Panel) (l : List ℕ) (r : Replayed) : Type 0 where
+  pub numbered : number (r .answer) ≡ 0
+  pub placed : place (r .answer) ≡ length l
+  pub known : InTurn OfCharacter.kview CharacterFact.same? CharacterFact.range CharacterMove.move es (k .character) (r .panel .character)
+  pub kept : r .panel .segment ≡ k .segment
+
+-- By how the records end: P where they are done, else 5, 6, 7 or 8 at the record's first byte, counted from the front of the whole recording.
+abbrev pub Ends : Ending → ℕ → Panel → Replayed → Type 0 → Type 0
+Ends Done start k r P = P
+Ends (Stops x at) start k r P = RefusedBy (Record.number x) (start + at .0) k r
+
+abbrev pub SegmentWalks : Family → Panel → List ℕ → ℕ → Walk → Replayed → Type 0
+SegmentWalks p k l start w r = Ends (endOf w) start k r (SegmentDone p (events w) k l r)
+
+abbrev pub CharacterWalks : Panel → List ℕ → ℕ → Walk → Replayed → Type 0
+CharacterWalks k l start w r = Ends (endOf w) start k r (CharacterDone (events w) k l r)
+
+-- Tests 2, 4, 3, each exactly then and at place 0.
+abbrev pub Tested : Type 0 → Panel → List ℕ → ℕ → Replayed → Type 0 → Type 0
+Tested good k l start r P =
+    Where good (Where (length l ≤ 65535) (Where (start ≤ length l) P (RefusedBy 3 0 k r)) (RefusedBy 4 0 k r)) (RefusedBy 2 0 k r)
+
+-- Then the records from the start place on.
+abbrev pub SegmentReplays : Part → Family → Panel → List ℕ → ℕ → Replayed → Type 0
+SegmentReplays part p k l start r =
+    Tested (Sound (SegmentFact.range (sizes p)) (OfSegment.kview (k .segment))) k l start r (SegmentWalks p k l start (walked part (drop start l)) r)
+
+abbrev pub CharacterReplays : Panel → List ℕ → ℕ → Replayed → Type 0
+CharacterReplays k l start r =
+    Tested (Sound CharacterFact.range (OfCharacter.kview (k .character))) k l start r (CharacterWalks k l start (walked Pt6302 (drop start l)) r)
+
+abbrev pub ReplaysPart : Part → Panel → List ℕ → ℕ → Replayed → Type 0
+ReplaysPart Pt6302 k l start r = CharacterReplays k l start r
+ReplaysPart Pt6312 k l start r = SegmentReplays Pt6312 OfFamily.Pt6312 k l start r
+ReplaysPart Pt6315 k l start r = SegmentReplays Pt6315 OfFamily.Pt6315 k l start r
+
+-- Test 1 comes first.
+abbrev pub Replays : PartRead → Panel → List ℕ → ℕ → Replayed → Type 0
+Replays (Is p) k l start r = ReplaysPart p k l start r
+Replays (Refused at) k l start r = RefusedBy 1 0 k r
+
+pub replays-refused : (q : PartRead) (at : Place) (k : Panel) (l : List ℕ) (start : ℕ) (r : Replayed) → Refused at ≡ q → RefusedBy 1 0 k r → Replays q k l start r
+replays-refused q at k l start r p h = subst (λ (x : PartRead). Replays x k l start r) p h
+
+-- By how the records end, as code finds it.
+pub ends-by : (a b : Ending) (start : ℕ) (k : Panel) (r : Replayed) (P : Type 0) → a ≡ b → Ends a start k r P → Ends b start k r P
+ends-by a b start k r P e h = subst (λ (x : Ending). Ends x start k r P) e h

@@ -1,0 +1,38 @@
+// What a replay answers.
+use panel::Panel;
+use recording::Refusal;
+use terms::Place;
+ghost use mathlib.Core.Path.{_≡_};
+ghost use Rattle.recording.specs.Record as Record;
+ghost use Rattle.replay.specs.Answer.{number, place};
+
+// Done, with the recording's length, or why not: numbers 1 to 8, each at its place.
+pub enum Answer {
+    Done(Place),
+    NoPart(Place),
+    OutOfRange(Place),
+    BeyondEnd(Place),
+    TooLong(Place),
+    Unlisted(Place),
+    Foreign(Place),
+    CutShort(Place),
+    Forbidden(Place),
+}
+
+// The answer, and the knowledge: after the recording where it is done, else as it was handed in.
+pub struct Replayed {
+    pub answer: Answer,
+    pub panel: Panel,
+}
+
+// The answer to a record that is none.
+pub fn refused(refusal: Refusal, at: Place) -> Answer
+    ensures { λ r. ⌜ (number r ≡ Record.number refusal) × (place r ≡ at .0) ⌝ }
+{
+    match refusal {
+        Refusal::Unlisted => Answer::Unlisted(at),
+        Refusal::Foreign => Answer::Foreign(at),
+        Refusal::CutShort => Answer::CutShort(at),
+        Refusal::Forbidden => Answer::Forbidden(at),
+    }
+}
