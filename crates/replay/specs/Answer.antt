@@ -1,6 +1,10 @@
 -- Paper 01's number and place for each answer of a replay.
 use Prim.Native.Nat.{ℕ}
-use mathlib.Core.Path.{_≡_}
+use mathlib.Core.Path.{_≡_, ap}
+use Rattle.terms.specs.declared.Place.{Place}
+use Rattle.recording.specs.declared.read.Refusal.{Refusal}
+use Rattle.recording.specs.declared.read.Refusal.the-variants as Record
+use Rattle.recording.specs.Record as Records
 use Rattle.panel.specs.declared.knowledge.Panel.{Panel}
 use Rattle.replay.specs.declared.answer.Answer.{Answer}
 use Rattle.replay.specs.declared.answer.Answer.the-variants.{Done, NoPart, OutOfRange, BeyondEnd, TooLong, Unlisted, Foreign, CutShort, Forbidden}
@@ -27,6 +31,19 @@ place (Unlisted at) = at .0
 place (Foreign at) = at .0
 place (CutShort at) = at .0
 place (Forbidden at) = at .0
+
+-- The answer to a record that is none, at its place, and that its number is the record's.
+abbrev pub refusedAs : Refusal → Place → Answer
+refusedAs Record.Unlisted at = Unlisted at
+refusedAs Record.Foreign at = Foreign at
+refusedAs Record.CutShort at = CutShort at
+refusedAs Record.Forbidden at = Forbidden at
+
+pub refused-as : (x : Refusal) (at : Place) (r : Answer) → r ≡ refusedAs x at → (number r ≡ Records.number x) × (place r ≡ at .0)
+refused-as Record.Unlisted at r e = (ap number e, ap place e)
+refused-as Record.Foreign at r e = (ap number e, ap place e)
+refused-as Record.CutShort at r e = (ap number e, ap place e)
+refused-as Record.Forbidden at r e = (ap number e, ap place e)
 
 -- Refused with the number n at a place: the knowledge comes back as handed in.
 pub record RefusedBy (n at : ℕ) (k : Panel) (r : Replayed) : Type 0 where

@@ -3,8 +3,7 @@ use panel::Panel;
 use recording::Refusal;
 use terms::Place;
 ghost use mathlib.Core.Path.{_≡_};
-ghost use Rattle.recording.specs.Record as Record;
-ghost use Rattle.replay.specs.Answer.{number, place};
+ghost use Rattle.replay.specs.Answer.{refusedAs};
 
 // Done, with the recording's length, or why not: numbers 1 to 8, each at its place.
 pub enum Answer {
@@ -27,7 +26,7 @@ pub struct Replayed {
 
 // The answer to a record that is none.
 pub fn refused(refusal: Refusal, at: Place) -> Answer
-    ensures { λ r. ⌜ (number r ≡ Record.number refusal) × (place r ≡ at .0) ⌝ }
+    ensures { λ r. ⌜ r ≡ refusedAs refusal at ⌝ }
 {
     match refusal {
         Refusal::Unlisted => Answer::Unlisted(at),

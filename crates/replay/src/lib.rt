@@ -6,4 +6,5 @@ mod segments;
 
 pub use answer::Answer;
 pub use answer::Replayed;
+pub use answer::refused;
 pub use replays::replay;

@@ -3,8 +3,10 @@
 use native.Mathlib.Omega.{arith}
 use mathlib.Core.Path.{_≡_, refl, sym, _∙_, subst}
 use lib.ListN.{length, drop, length-drop}
+use Prim.Native.Nat.{_+_}
 use Rattle.replay.specs.Laws.{part-from, left-by}
 use Rattle.replay.specs.Replay.{ends-by}
+use Rattle.replay.specs.Answer.{refused-as}
 use Rattle.recording.specs.Steps.{stops-within}
 use Rattle.recording.specs.Walk.{walked, events, endOf}
 use Rattle.walks.specs.Left.{InTurn}
@@ -60,7 +62,7 @@ returns-2 c = let a = c .before .before .before .before .before .before .before 
     let w : Walks (a .part) (a .family) (a .panel .segment) (drop (a .from) l) (c .before .before .before .before .before .before .segment-walk .result) = subst (λ m. Walks (a .part) (a .family) (a .panel .segment) m (c .before .before .before .before .before .before .segment-walk .result)) (part-from (a .from) l) (c .before .before .before .before .before .before .segment-walk .ensures) in
     let told = c .before .before .before .ending .given .1 in
     ends-by _ (endOf (walked (a .part) (drop (a .from) l))) (a .from) (a .panel) _ _ (sym told ∙ w .ended)
-    (record { numbered = c .refused .ensures .0; placed = c .refused .ensures .1; kept = refl })
+    (let n = refused-as (c .before .before .before .ending .given .0 .0) (record { 0 = a .from + c .before .before .before .ending .given .0 .1 .0 .0 }) _ (c .refused .ensures) in record { numbered = n .0; placed = n .1; kept = refl })
 
 pub segment-from-spec : {M : Type 1} → statement M
 segment-from-spec =

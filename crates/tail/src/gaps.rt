@@ -1,0 +1,63 @@
+// The walk that looks for gaps.
+use recording::Read;
+use recording::record_at;
+use replay::Answer;
+use replay::refused;
+use terms::Event;
+use terms::Part;
+use terms::Place;
+ghost use mathlib.Core.Path.{_≡_};
+ghost use Rattle.recording.specs.Walk.{onGap};
+ghost use Rattle.tail.specs.Tail.{foundIn};
+
+// The answer, and where the tail starts and ends in the recording: refused, it is the empty part at the front.
+pub struct Found {
+    pub answer: Answer,
+    pub start: Place,
+    pub end: Place,
+}
+
+pub fn walk_gaps(part: Part, bytes: &[u8]) -> Found
+    ensures { λ r. ⌜ r ≡ foundIn part (now (bytes .entry)) ⌝ }
+{
+    let mut start = 0;
+    let mut i = 0;
+    while i < bytes.len() {
+        let read = record_at(part, bytes, Place(i));
+        match read {
+            Read::Is(event, length) => {
+                start = behind(event, i + 1, start);
+                i += length;
+            }
+            Read::Refused(refusal) => {
+                return Found {
+                    answer: refused(refusal, Place(i)),
+                    start: Place(0),
+                    end: Place(0),
+                };
+            }
+        }
+    }
+    Found {
+        answer: Answer::Done(Place(i)),
+        start: Place(start),
+        end: Place(i),
+    }
+}
+
+// Behind a gap the tail starts anew.
+fn behind(event: Event, here: usize, before: usize) -> usize
+    ensures { λ r. ⌜ r ≡ onGap event here before ⌝ }
+{
+    match event {
+        Event::Gap => here,
+        Event::Power => before,
+        Event::Falls => before,
+        Event::ByteIn(_) => before,
+        Event::Rises => before,
+        Event::Unfinished(_) => before,
+        Event::Keys(_, _, _, _) => before,
+        Event::Switches(_) => before,
+        Event::ByteOut => before,
+    }
+}

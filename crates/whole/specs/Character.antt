@@ -1,0 +1,111 @@
+-- Demand 3's last sentence for PT6302. The argument is that for PT6312 and PT6315: every rule looks only at settings and the position, and, with no gap
+-- and no undefined command, lets only memory become anything.
+use Prim.Native.Nat.{ℕ, zero, suc, _+_, _*_, _%_}
+use mathlib.Core.Path.{_≡_, refl, ap, _∙_}
+use mathlib.Core.List.{List, map}
+use lib.Dec.{eqb}
+use Rattle.rules.specs.Choice.{whether-all}
+use Rattle.rules.specs.Rule.{value, Rule}
+use Rattle.rules.specs.Change.{keep}
+use Rattle.knowing.specs.Standing.{Standing, known, Sound}
+use Rattle.terms.specs.declared.Event.{Event}
+use Rattle.terms.specs.declared.Event.the-variants.{Power, Falls, ByteIn, Rises, Gap, Unfinished, Keys, Switches, ByteOut}
+use Rattle.terms.specs.Event.{Bytes}
+use Rattle.character.specs.declared.command.Command.{Command}
+use Rattle.character.specs.declared.command.Command.the-variants.{Dcram, Cgram, Adram, Port, Duty, Digits, Light, Nothing, Undefined}
+use Rattle.character.specs.declared.chip.Position.{Position}
+use Rattle.character.specs.declared.chip.Position.the-variants.{Idle, First, Dcram as inDcram, Cgram as inCgram, Adram as inAdram, Ignoring}
+use Rattle.character.specs.Fact.{Fact, same?, range, dcram, cgram, adram, dcramAt, cgramAt, adramAt, column, port, duty, digits, lights, position, Sort, memory, setting, transfer, sort}
+use Rattle.character.specs.Value.{lit, at-position}
+use Rattle.character.specs.Command.{commandOf}
+use Rattle.character.specs.Move.{Forms, sets, then, commanded, drawn, byteIn, move}
+use Rattle.character.specs.Touch.{Defined}
+use Rattle.character.specs.Laws.{every}
+use Rattle.character.specs.Range.{ranged, two}
+use Rattle.whole.specs.Clear.{Settled, AllOwn, Clear, keep-own, change-own}
+use Rattle.whole.specs.Usual.{PlainAt, Each, Throughout}
+use Rattle.whole.specs.Whole.{ExactAtEnd, exact-at-end}
+
+-- Settings and the transfer position.
+abbrev pub Asked : Sort → Type 0
+Asked memory = ⊥
+Asked setting = Unit
+Asked transfer = Unit
+
+-- What the start is asked to know, and all that rules look at.
+abbrev pub Steers : Fact → Type 0
+Steers f = Asked (sort f)
+
+-- The event is no gap and, where the position is known to be first byte, no undefined command.
+abbrev pub Plain : Event → (Fact → Standing) → Type 0
+Plain e k = PlainAt (at-position First) (λ b. Defined (commandOf b)) e (k position)
+
+-- The recording has no gap and no undefined command, from the knowledge k on.
+abbrev pub Usual : List Event → (Fact → Standing) → Type 0
+Usual es k = Throughout same? range move Plain es k
+
+abbrev Fine : Forms → Type 0
+Fine φ = AllOwn Steers φ
+
+sets-fine : (g : Fact) (v : ℕ) (φ : Forms) → Fine φ → Fine (sets g v φ)
+sets-fine g v φ h = change-own Steers same? g (value v) φ tt h
+
+kept : Fine keep
+kept = keep-own Steers
+
+then-fine : (q : Position) → Fine (then q)
+then-fine q = sets-fine position (at-position q) keep kept
+
+commanded-fine : (m : Command) → Defined m → Fine (commanded m)
+commanded-fine (Dcram a) h = sets-fine dcramAt (a .0) _ (then-fine inDcram)
+commanded-fine (Cgram a) h = sets-fine cgramAt (a .0) _ (sets-fine column 0 _ (then-fine inCgram))
+commanded-fine (Adram a) h = sets-fine adramAt (a .0) _ (then-fine inAdram)
+commanded-fine (Port p) h = sets-fine port p _ (then-fine Ignoring)
+commanded-fine (Duty d) h = sets-fine duty d _ (then-fine Ignoring)
+commanded-fine (Digits d) h = sets-fine digits d _ (then-fine Ignoring)
+commanded-fine (Light l) h = sets-fine lights (lit l) _ (then-fine Ignoring)
+commanded-fine Nothing h = then-fine Ignoring
+commanded-fine Undefined h = absurd h
+
+module _ (k : Fact → Standing) where
+  abbrev Clears : Rule Fact Fact → Type 0
+  Clears rule = Clear Steers rule k
+
+  drawn-clear : (b a i : ℕ) → Clears (drawn b a i)
+  drawn-clear b a i =
+      let cells : Forms = sets (cgram (a % 8 * 5 + i % 5)) (b % 128) keep in
+      let h = sets-fine (cgram (a % 8 * 5 + i % 5)) (b % 128) keep kept in
+      whether-all Clears (eqb (i % 5) 4) _ _
+      (λ _. sets-fine cgramAt ((a % 8 + 1) % 8) (sets column 0 cells) (sets-fine column 0 cells h))
+      (λ _. sets-fine column (i % 5 + 1) cells h)
+
+  -- A byte, by the position: only a first byte is a command.
+  byte-clear : (b q : ℕ) → (q ≡ 1 → Defined (commandOf b)) → Clears (byteIn b q)
+  byte-clear b zero h = kept
+  byte-clear b (suc zero) h = commanded-fine (commandOf b) (h refl)
+  byte-clear b (suc (suc zero)) h = (tt, λ a _. sets-fine dcramAt ((a % 16 + 1) % 16) _ (sets-fine (dcram (a % 16)) b keep kept))
+  byte-clear b (suc (suc (suc zero))) h = (tt, λ a _. (tt, λ i _. drawn-clear b a i))
+  byte-clear b (suc (suc (suc (suc zero)))) h = (tt, λ a _. sets-fine adramAt ((a % 16 + 1) % 16) _ (sets-fine (adram (a % 16)) (b % 4) keep kept))
+  byte-clear b (suc (suc (suc (suc (suc n))))) h = kept
+
+-- Every event but a gap and an undefined command is clear.
+pub clear : (e : Event) (k : Fact → Standing) → Plain e k → Clear Steers (move e) k
+clear Power k h = every _ (λ i n. n) (λ i n. n) (λ i n. n) tt tt tt tt tt tt tt tt tt
+clear Falls k h = then-fine First
+clear (ByteIn b) k h = (tt, λ q e. byte-clear k b q (λ p. h (e ∙ ap known p)))
+clear Rises k h = then-fine Idle
+clear Gap k h = absurd h
+clear (Unfinished n) k h = then-fine Idle
+clear (Keys k0 k1 k2 k3) k h = kept
+clear (Switches v) k h = kept
+clear ByteOut k h = kept
+
+module _ (es : List Event) (k : Fact → Standing) (carried : Each Bytes es) (sound : Sound range k) (settled : Settled Steers k) (usual : Usual es k) where
+  -- Any fact is known at the end exactly when every fitting chip ends with the same value there, and has that value.
+  pub character-facts : (f : Fact) → ExactAtEnd same? range (map move es) k f
+  character-facts = exact-at-end same? range two move Bytes ranged Steers Plain clear es k carried sound settled usual
+
+  -- So is each cell of the three memories.
+  pub character-cells : (i : ℕ)
+      → ExactAtEnd same? range (map move es) k (dcram i) × ExactAtEnd same? range (map move es) k (cgram i) × ExactAtEnd same? range (map move es) k (adram i)
+  character-cells i = (character-facts (dcram i), character-facts (cgram i), character-facts (adram i))

@@ -1,0 +1,5 @@
+pub mod Clear
+pub mod Usual
+pub mod Whole
+pub mod Segment
+pub mod Character

@@ -1,0 +1,132 @@
+-- Demand 3's last sentence for PT6312 and PT6315, over the numbers in which they differ. The argument: every rule looks only at settings and the position,
+-- and gives each fact a value, or leaves it as it was, or lets it be anything. Only memory, keys and switches become anything, unless there is a gap or an
+-- undefined command; so settings and position stay known, and every event is clear.
+use Prim.Native.Nat.{ℕ, zero, suc, _+_, _%_, min}
+use mathlib.Core.Path.{_≡_, refl, ap, _∙_}
+use mathlib.Core.List.{List, map}
+use lib.Dec.{ltb, eqb}
+use Rattle.rules.specs.Choice.{whether-all, of2-all, of4-all}
+use Rattle.rules.specs.Rule.{value, copy, Rule, look}
+use Rattle.rules.specs.Change.{keep}
+use Rattle.knowing.specs.Standing.{Standing, known, Sound}
+use Rattle.terms.specs.declared.Event.{Event}
+use Rattle.terms.specs.declared.Event.the-variants.{Power, Falls, ByteIn, Rises, Gap, Unfinished, Keys, Switches, ByteOut}
+use Rattle.terms.specs.Event.{Bytes}
+use Rattle.segment.specs.declared.chip.Family.{Family}
+use Rattle.segment.specs.declared.chip.Sizes.{Sizes}
+use Rattle.segment.specs.declared.chip.Position.{Position}
+use Rattle.segment.specs.declared.chip.Position.the-variants.{Idle, First, Open, Ignoring}
+use Rattle.segment.specs.declared.chip.Display.the-variants.{Off}
+use Rattle.segment.specs.declared.command.Command.{Command}
+use Rattle.segment.specs.declared.command.Command.the-variants.{Mode, Test, Setting, AnySetting, Control, Start}
+use Rattle.segment.specs.Family.{sizes}
+use Rattle.segment.specs.Fact.{Fact, cell, address, dataMode, stepping, mode, dimming, display, led, key, switches, readCount, position, same?, range, Sort, memory, setting, input, transfer, sort}
+use Rattle.segment.specs.Value.{pointer, data-mode, steps, shows, at-position}
+use Rattle.segment.specs.Command.{commandOf}
+use Rattle.segment.specs.Move.{Forms, sets, then, commanded, after, stored, byteIn, counted, move}
+use Rattle.segment.specs.Touch.{Defined}
+use Rattle.segment.specs.Laws.{every}
+use Rattle.segment.specs.Range.{proper, ranged, two}
+use Rattle.whole.specs.Clear.{Settled, Own, AllOwn, Clear, keep-own, change-own}
+use Rattle.whole.specs.Usual.{PlainAt, Each, Throughout}
+use Rattle.whole.specs.Whole.{ExactAtEnd, exact-at-end}
+
+-- Settings and the transfer position.
+abbrev pub Asked : Sort → Type 0
+Asked memory = ⊥
+Asked setting = Unit
+Asked input = ⊥
+Asked transfer = Unit
+
+-- What the start is asked to know, and all that rules look at.
+abbrev pub Steers : Fact → Type 0
+Steers f = Asked (sort f)
+
+-- The event is no gap and, where the position is known to be first byte, no undefined command.
+abbrev pub Plain : Sizes → Event → (Fact → Standing) → Type 0
+Plain s e k = PlainAt (at-position First) (λ b. Defined (commandOf s b)) e (k position)
+
+-- The recording has no gap and no undefined command, from the knowledge k on.
+abbrev pub Usual : Sizes → List Event → (Fact → Standing) → Type 0
+Usual s es k = Throughout same? (range s) (move s) (Plain s) es k
+
+abbrev Fine : Forms → Type 0
+Fine φ = AllOwn Steers φ
+
+sets-fine : (g : Fact) (v : ℕ) (φ : Forms) → Fine φ → Fine (sets g v φ)
+sets-fine g v φ h = change-own Steers same? g (value v) φ tt h
+
+kept : Fine keep
+kept = keep-own Steers
+
+then-fine : (q : Position) → Fine (then q)
+then-fine q = sets-fine position (at-position q) keep kept
+
+module _ (s : Sizes) (k : Fact → Standing) where
+  abbrev Clears : Rule Fact Fact → Type 0
+  Clears rule = Clear Steers rule k
+
+  commanded-clear : (m : Command) → Defined m → Clears (commanded m)
+  commanded-clear (Mode m) h = (
+    tt,
+    λ old _. whether-all Clears (eqb old m) _ _ (λ _. then-fine Ignoring)
+        (λ _. sets-fine mode m _ (sets-fine display (shows Off) _ (then-fine Ignoring))),
+  )
+  commanded-clear Test h = absurd h
+  commanded-clear (Setting d i) h = sets-fine dataMode (data-mode d) _ (sets-fine stepping (steps i) _ (sets-fine readCount 0 _ (then-fine Open)))
+  commanded-clear (AnySetting i) h = absurd h
+  commanded-clear (Control d o) h = sets-fine dimming d _ (sets-fine display (shows o) _ (then-fine Ignoring))
+  commanded-clear (Start a) h = sets-fine address (pointer a) _ (then-fine Open)
+
+  stored-clear : (b a : ℕ) → Clears (stored s b a)
+  stored-clear b zero = kept
+  stored-clear b (suc i) =
+      whether-all Clears (ltb i (s .cells)) _ _
+      (λ _. (tt, λ n _. of2-all Clears _ _ (sets-fine address (pointer (after s i)) _ (sets-fine (cell i) b keep kept)) (sets-fine (cell i) b keep kept) n))
+      (λ _. kept)
+
+  -- A byte, by the position: only a first byte is a command.
+  byte-clear : (b q : ℕ) → (q ≡ 1 → Defined (commandOf s b)) → Clears (byteIn s b q)
+  byte-clear b zero h = kept
+  byte-clear b (suc zero) h = commanded-clear (commandOf s b) (h refl)
+  byte-clear b (suc (suc zero)) h = (
+    tt,
+    λ d _. of4-all Clears _ _ _ _ (tt, λ a _. stored-clear b a) (sets-fine led (b % 16) keep kept) kept kept d,
+  )
+  byte-clear b (suc (suc (suc n))) h = kept
+
+  counted-clear : Clears (look readCount counted)
+  counted-clear = (tt, λ n _. sets-fine readCount (min (n + 1) 4) keep kept)
+
+-- Every event but a gap and an undefined command is clear.
+pub clear : (s : Sizes) (e : Event) (k : Fact → Standing) → Plain s e k → Clear Steers (move s e) k
+clear s Power k h = every _ (λ i n. n) tt tt tt tt tt tt tt (λ i n. n) (λ n. n) tt tt
+clear s Falls k h = then-fine First
+clear s (ByteIn b) k h = (tt, λ q e. byte-clear s k b q (λ p. h (e ∙ ap known p)))
+clear s Rises k h = then-fine Idle
+clear s Gap k h = absurd h
+clear s (Unfinished n) k h = then-fine Idle
+clear s (Keys k0 k1 k2 k3) k h =
+    sets-fine (key 0) k0 _
+    (sets-fine (key 1) k1 _
+    (sets-fine (key 2) k2 _
+    (change-own Steers same? (key 3) _ keep (whether-all (Own Steers (key 3)) (ltb 3 (s .keys)) (value k3) (copy (key 3)) (λ _. tt) (λ _. refl)) kept)))
+clear s (Switches v) k h = whether-all Fine (s .switched) _ _ (λ _. sets-fine switches (v % 16) keep kept) (λ _. kept)
+clear s ByteOut k h = (
+  tt,
+  λ q _. of4-all (Clears s k) _ _ _ _ kept kept
+      (tt, λ d _. of4-all (Clears s k) _ _ _ _ kept kept (counted-clear s k) (counted-clear s k) d)
+      kept q,
+)
+
+module _ (p : Family) (es : List Event) (k : Fact → Standing) (carried : Each Bytes es) (sound : Sound (range (sizes p)) k)
+    (settled : Settled Steers k) (usual : Usual (sizes p) es k) where
+  -- Any fact is known at the end exactly when every fitting chip ends with the same value there, and has that value.
+  pub segment-facts : (f : Fact) → ExactAtEnd same? (range (sizes p)) (map (move (sizes p)) es) k f
+  segment-facts =
+      exact-at-end same? (range (sizes p)) (two p) (move (sizes p)) Bytes (ranged (sizes p) (proper p)) Steers (Plain (sizes p)) (clear (sizes p)) es k
+      carried sound settled usual
+
+  -- So is a memory cell.
+  pub segment-cells : (i : ℕ) → ExactAtEnd same? (range (sizes p)) (map (move (sizes p)) es) k (cell i)
+  segment-cells i = segment-facts (cell i)

@@ -1,0 +1,33 @@
+-- Recordings with no gap and no undefined command, for any part. A byte is a command only as the first of a transfer, so this goes along the events
+-- with what is known of the position.
+use Prim.Native.Nat.{ℕ}
+use mathlib.Core.Path.{_≡_}
+use mathlib.Core.List.{List, [], _∷_}
+use Rattle.rules.specs.Rule.{Rule}
+use Rattle.knowing.specs.Standing.{Standing, known}
+use Rattle.knowing.specs.Know.{know}
+use Rattle.terms.specs.declared.Event.{Event}
+use Rattle.terms.specs.declared.Event.the-variants.{Power, Falls, ByteIn, Rises, Gap, Unfinished, Keys, Switches, ByteOut}
+
+-- The event is no gap and no undefined command, where s is what is known of the position, `first` the position of a first byte, and `Defined` says
+-- which bytes are defined commands.
+abbrev pub PlainAt : ℕ → (ℕ → Type 0) → Event → Standing → Type 0
+PlainAt first Defined Power s = Unit
+PlainAt first Defined Falls s = Unit
+PlainAt first Defined (ByteIn b) s = s ≡ known first → Defined b
+PlainAt first Defined Rises s = Unit
+PlainAt first Defined Gap s = ⊥
+PlainAt first Defined (Unfinished n) s = Unit
+PlainAt first Defined (Keys k0 k1 k2 k3) s = Unit
+PlainAt first Defined (Switches v) s = Unit
+PlainAt first Defined ByteOut s = Unit
+
+-- P holds of each event.
+abbrev pub Each : {E : Type 0} → (E → Type 0) → List E → Type 0
+Each P [] = Unit
+Each P (e ∷ es) = P e × Each P es
+
+-- P holds of each event and the knowledge that it meets: k, after the events before it.
+abbrev pub Throughout : {E F : Type 0} → Discrete F → (F → ℕ) → (E → Rule F F) → (E → (F → Standing) → Type 0) → List E → (F → Standing) → Type 0
+Throughout same? range move P [] k = Unit
+Throughout same? range move P (e ∷ es) k = P e k × Throughout same? range move P es (know same? range (move e) k)
