@@ -1,5 +1,5 @@
 // What an example of PT6302 starts from.
-use crate::segments::fact;
+use crate::codes::fact;
 use character_knowledge::DCRAM;
 use character_knowledge::Knowledge;
 use character_knowledge::ON;

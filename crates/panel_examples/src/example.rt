@@ -1,20 +1,16 @@
 // An example: its part byte, what is known of the panel, and the last event's answer.
+use crate::answers;
 use crate::characters;
-use crate::print;
 use crate::record::Record;
 use crate::segments;
 use crate::show_characters;
 use crate::show_segments;
-use libc::STDOUT_FILENO;
 use panel::Answer;
 use panel::Panel;
-use panel::Report;
 use segment::Family;
-use segment_sent::Sending;
 use terms::Event;
 use terms::Part;
 use terms::PartRead;
-use terms::Place;
 
 pub struct Example {
     part: u8,
@@ -39,7 +35,7 @@ impl Example {
         }
     }
 
-    // A word. Where the byte names no part, it speaks of PT6312 and PT6315.
+    // A word, which speaks of PT6312 and PT6315 where the byte names no part.
     pub fn told(self, word: u8, at: u8, code: u16) -> Example {
         let old = self.panel;
         if self.part == 0x02 {
@@ -81,31 +77,11 @@ impl Example {
     }
 
     pub fn show(self) {
-        let last = self.answer;
-        answer(last);
+        let answer = self.answer;
+        answers::show(answer);
         known(self.part, self.panel);
-        next(self.part, self.panel);
+        answers::tell(panel::next_sent(self.part, self.panel));
     }
-}
-
-// Nothing, or the number and place of the refusal.
-fn answer(answer: Answer) {
-    match answer {
-        Answer::Done => {}
-        Answer::NoPart(place) => {
-            refused(b"    refused 1 at ", place);
-            print::text(b"\n");
-        }
-        Answer::OutOfRange(place) => {
-            refused(b"    refused 2 at ", place);
-            print::text(b"\n");
-        }
-    }
-}
-
-fn refused(number: &[u8], place: Place) {
-    print::text(number);
-    io::print_decimal(STDOUT_FILENO, place.0 as u64);
 }
 
 // The half that the part byte asks for, or both where it names no part.
@@ -120,26 +96,5 @@ fn known(part: u8, panel: Panel) {
             show_segments::show(Family::Pt6315, panel.segment);
             show_characters::show(panel.character);
         }
-    }
-}
-
-fn next(part: u8, panel: Panel) {
-    print::text(b"    next byte ");
-    match panel::next_sent(part, panel) {
-        Report::Is(sending) => sends(sending),
-        Report::NoPart(place) => refused(b"unknown, refused 1 at ", place),
-        Report::OutOfRange(place) => refused(b"unknown, refused 2 at ", place),
-    }
-    print::text(b"\n");
-}
-
-fn sends(sending: Sending) {
-    match sending {
-        Sending::Byte(byte) => {
-            print::text(b"sends ");
-            print::hex(byte);
-        }
-        Sending::NotDriven => print::text(b"not driven"),
-        Sending::Unknown => print::text(b"unknown"),
     }
 }

@@ -13,7 +13,12 @@
 // PT6312 and PT6315 have cell, key, every (all cells), address, invalid (the address), data (mode), fixed (or increment), mode, bright
 // (dimming), on, led, switches, reads (the read count) and position. PT6302 has text (DCRAM), shape (CGRAM, columns 00H to 27H) and mark
 // (ADRAM), dcram, glyph and adram (their addresses), column, out (the port), bright (duty), width (digits), lights and position.
+//
+// What is written has memory, keys and addresses in hex and other numbers in decimal. Memory stands as runs, 00-06=6E; ?? is unknown and !! the code
+// 257. A refusal is its number and place, and what is known then is as it was.
+mod answers;
 mod characters;
+mod codes;
 mod example;
 mod print;
 mod reader;

@@ -42,6 +42,7 @@ impl Reader {
                 equals: true,
                 ..self
             },
+            b'?' => Reader { code: 256, ..self },
             b'!' => Reader { code: 257, ..self },
             _ => self.digit(c),
         }
@@ -60,8 +61,14 @@ impl Reader {
             return self;
         }
         let example = self.example.told(self.word, self.at, self.code);
-        let next = Reader::new();
-        Reader { example, ..next }
+        Reader {
+            example,
+            word: 0,
+            at: 0,
+            code: 256,
+            equals: false,
+            ..self
+        }
     }
 
     fn digit(self, c: u8) -> Reader {

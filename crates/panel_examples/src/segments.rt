@@ -1,4 +1,5 @@
 // What an example of PT6312 or PT6315 starts from.
+use crate::codes::fact;
 use segment_knowledge::INCREMENT;
 use segment_knowledge::Knowledge;
 use segment_knowledge::ON;
@@ -78,15 +79,6 @@ fn single_told(k: Knowledge, word: u8, fact: Standing) -> Knowledge {
             ..k
         },
         _ => k,
-    }
-}
-
-// The single fact that a code stands for.
-pub fn fact(code: u16) -> Standing {
-    if code < 256 {
-        Standing::Known((code % 256) as u8)
-    } else {
-        Standing::Unknown
     }
 }
 

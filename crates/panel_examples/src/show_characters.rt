@@ -1,4 +1,5 @@
 // What is known of a PT6302 panel, in words.
+use crate::codes;
 use crate::print;
 use character_knowledge::ADRAM;
 use character_knowledge::CGRAM;
@@ -82,12 +83,12 @@ fn lights(fact: Standing) {
     }
 }
 
-fn sixteen(name: &[u8], codes: [u16; 16]) {
+fn sixteen(name: &[u8], row: [u16; 16]) {
     print::text(name);
-    print::codes(&codes);
+    codes::row(&row);
 }
 
-fn forty(name: &[u8], codes: [u16; 40]) {
+fn forty(name: &[u8], row: [u16; 40]) {
     print::text(name);
-    print::codes(&codes);
+    codes::row(&row);
 }

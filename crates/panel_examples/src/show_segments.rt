@@ -1,4 +1,5 @@
 // What is known of a PT6312 or PT6315 panel, in words. What the part lacks is not shown.
+use crate::codes;
 use crate::print;
 use segment::Family;
 use segment_knowledge::FIRST;
@@ -111,16 +112,16 @@ fn display(fact: Standing) {
 
 fn keys(family: Family, keys: [u16; 4]) {
     print::text(b", keys ");
-    print::code(keys[0]);
+    codes::show(keys[0]);
     print::text(b" ");
-    print::code(keys[1]);
+    codes::show(keys[1]);
     print::text(b" ");
-    print::code(keys[2]);
+    codes::show(keys[2]);
     match family {
         Family::Pt6312 => {}
         Family::Pt6315 => {
             print::text(b" ");
-            print::code(keys[3]);
+            codes::show(keys[3]);
         }
     }
 }
@@ -135,8 +136,8 @@ fn switches(family: Family, fact: Standing) {
 fn cells(family: Family, cells: [u16; 36]) {
     print::text(b"\n    cells");
     match family {
-        Family::Pt6312 => print::codes(&cells[..22]),
-        Family::Pt6315 => print::codes(&cells),
+        Family::Pt6312 => codes::row(&cells[..22]),
+        Family::Pt6315 => codes::row(&cells),
     }
     print::text(b"\n");
 }
