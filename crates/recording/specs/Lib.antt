@@ -2,3 +2,4 @@ pub mod Record
 pub mod Walk
 pub mod Laws
 pub mod Steps
+pub mod Append

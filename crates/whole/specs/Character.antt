@@ -7,7 +7,8 @@ use lib.Dec.{eqb}
 use Rattle.rules.specs.Choice.{whether-all}
 use Rattle.rules.specs.Rule.{value, Rule}
 use Rattle.rules.specs.Change.{keep}
-use Rattle.knowing.specs.Standing.{Standing, known, Sound}
+use Rattle.knowing.specs.Standing.{Standing, known, Fits, Sound}
+use Rattle.rules.specs.Range.{Good}
 use Rattle.terms.specs.declared.Event.{Event}
 use Rattle.terms.specs.declared.Event.the-variants.{Power, Falls, ByteIn, Rises, Gap, Unfinished, Keys, Switches, ByteOut}
 use Rattle.terms.specs.Event.{Bytes}
@@ -23,7 +24,8 @@ use Rattle.character.specs.Touch.{Defined}
 use Rattle.character.specs.Laws.{every}
 use Rattle.character.specs.Range.{ranged, two}
 use Rattle.whole.specs.Clear.{Settled, AllOwn, Clear, keep-own, change-own}
-use Rattle.whole.specs.Usual.{PlainAt, Each, Throughout}
+use Rattle.whole.specs.Usual.{PlainAt, Each, Throughout, plain-less}
+use Rattle.whole.specs.Taken.{Takes, takes-throughout}
 use Rattle.whole.specs.Whole.{ExactAtEnd, exact-at-end}
 
 -- Settings and the transfer position.
@@ -100,10 +102,17 @@ clear (Keys k0 k1 k2 k3) k h = kept
 clear (Switches v) k h = kept
 clear ByteOut k h = kept
 
-module _ (es : List Event) (k : Fact → Standing) (carried : Each Bytes es) (sound : Sound range k) (settled : Settled Steers k) (usual : Usual es k) where
+-- No gap and no undefined command, as the chip c takes the events.
+abbrev pub UsualFor : List Event → (Fact → ℕ) → Type 0
+UsualFor es c = Takes range move Plain es c
+
+module _ (es : List Event) (k : Fact → Standing) (carried : Each Bytes es) (sound : Sound range k) (settled : Settled Steers k)
+    (c : Fact → ℕ) (good : Good range c) (fits : Fits k c) (usual : UsualFor es c) where
   -- Any fact is known at the end exactly when every fitting chip ends with the same value there, and has that value.
   pub character-facts : (f : Fact) → ExactAtEnd same? range (map move es) k f
-  character-facts = exact-at-end same? range two move Bytes ranged Steers Plain clear es k carried sound settled usual
+  character-facts =
+      exact-at-end same? range two move Bytes ranged Steers Plain clear es k carried sound settled
+      (takes-throughout same? range two move Bytes ranged Plain (λ e l d h. plain-less (at-position First) (λ b. Defined (commandOf b)) e (l position) (d position) (h position)) es k c carried sound good fits usual)
 
   -- So is each cell of the three memories.
   pub character-cells : (i : ℕ)

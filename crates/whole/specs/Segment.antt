@@ -8,7 +8,8 @@ use lib.Dec.{ltb, eqb}
 use Rattle.rules.specs.Choice.{whether-all, of2-all, of4-all}
 use Rattle.rules.specs.Rule.{value, copy, Rule, look}
 use Rattle.rules.specs.Change.{keep}
-use Rattle.knowing.specs.Standing.{Standing, known, Sound}
+use Rattle.knowing.specs.Standing.{Standing, known, Fits, Sound}
+use Rattle.rules.specs.Range.{Good}
 use Rattle.terms.specs.declared.Event.{Event}
 use Rattle.terms.specs.declared.Event.the-variants.{Power, Falls, ByteIn, Rises, Gap, Unfinished, Keys, Switches, ByteOut}
 use Rattle.terms.specs.Event.{Bytes}
@@ -28,7 +29,8 @@ use Rattle.segment.specs.Touch.{Defined}
 use Rattle.segment.specs.Laws.{every}
 use Rattle.segment.specs.Range.{proper, ranged, two}
 use Rattle.whole.specs.Clear.{Settled, Own, AllOwn, Clear, keep-own, change-own}
-use Rattle.whole.specs.Usual.{PlainAt, Each, Throughout}
+use Rattle.whole.specs.Usual.{PlainAt, Each, Throughout, plain-less}
+use Rattle.whole.specs.Taken.{Takes, takes-throughout}
 use Rattle.whole.specs.Whole.{ExactAtEnd, exact-at-end}
 
 -- Settings and the transfer position.
@@ -119,13 +121,19 @@ clear s ByteOut k h = (
       kept q,
 )
 
+-- No gap and no undefined command, as the chip c takes the events.
+abbrev pub UsualFor : Sizes → List Event → (Fact → ℕ) → Type 0
+UsualFor s es c = Takes (range s) (move s) (Plain s) es c
+
 module _ (p : Family) (es : List Event) (k : Fact → Standing) (carried : Each Bytes es) (sound : Sound (range (sizes p)) k)
-    (settled : Settled Steers k) (usual : Usual (sizes p) es k) where
+    (settled : Settled Steers k) (c : Fact → ℕ) (good : Good (range (sizes p)) c) (fits : Fits k c) (usual : UsualFor (sizes p) es c) where
   -- Any fact is known at the end exactly when every fitting chip ends with the same value there, and has that value.
   pub segment-facts : (f : Fact) → ExactAtEnd same? (range (sizes p)) (map (move (sizes p)) es) k f
   segment-facts =
       exact-at-end same? (range (sizes p)) (two p) (move (sizes p)) Bytes (ranged (sizes p) (proper p)) Steers (Plain (sizes p)) (clear (sizes p)) es k
-      carried sound settled usual
+      carried sound settled
+      (takes-throughout same? (range (sizes p)) (two p) (move (sizes p)) Bytes (ranged (sizes p) (proper p)) (Plain (sizes p))
+      (λ e l d h. plain-less (at-position First) (λ b. Defined (commandOf (sizes p) b)) e (l position) (d position) (h position)) es k c carried sound good fits usual)
 
   -- So is a memory cell.
   pub segment-cells : (i : ℕ) → ExactAtEnd same? (range (sizes p)) (map (move (sizes p)) es) k (cell i)

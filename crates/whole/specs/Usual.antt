@@ -1,10 +1,10 @@
 -- Recordings with no gap and no undefined command, for any part. A byte is a command only as the first of a transfer, so this goes along the events
 -- with what is known of the position.
 use Prim.Native.Nat.{ℕ}
-use mathlib.Core.Path.{_≡_}
+use mathlib.Core.Path.{_≡_, ap, subst}
 use mathlib.Core.List.{List, [], _∷_}
 use Rattle.rules.specs.Rule.{Rule}
-use Rattle.knowing.specs.Standing.{Standing, known}
+use Rattle.knowing.specs.Standing.{Standing, known, Agrees}
 use Rattle.knowing.specs.Know.{know}
 use Rattle.terms.specs.declared.Event.{Event}
 use Rattle.terms.specs.declared.Event.the-variants.{Power, Falls, ByteIn, Rises, Gap, Unfinished, Keys, Switches, ByteOut}
@@ -31,3 +31,15 @@ Each P (e ∷ es) = P e × Each P es
 abbrev pub Throughout : {E F : Type 0} → Discrete F → (F → ℕ) → (E → Rule F F) → (E → (F → Standing) → Type 0) → List E → (F → Standing) → Type 0
 Throughout same? range move P [] k = Unit
 Throughout same? range move P (e ∷ es) k = P e k × Throughout same? range move P es (know same? range (move e) k)
+
+-- What is plain where the position is w is plain where no more is known of it.
+pub plain-less : (first : ℕ) (Defined : ℕ → Type 0) (e : Event) (s : Standing) (w : ℕ) → Agrees s w → PlainAt first Defined e (known w) → PlainAt first Defined e s
+plain-less first Defined Power s w a h = tt
+plain-less first Defined Falls s w a h = tt
+plain-less first Defined (ByteIn b) s w a h = λ e. h (ap known (subst (λ (t : Standing). Agrees t w) e a))
+plain-less first Defined Rises s w a h = tt
+plain-less first Defined Gap s w a h = h
+plain-less first Defined (Unfinished n) s w a h = tt
+plain-less first Defined (Keys k0 k1 k2 k3) s w a h = tt
+plain-less first Defined (Switches v) s w a h = tt
+plain-less first Defined ByteOut s w a h = tt

@@ -13,6 +13,7 @@ use Rattle.knowing.specs.Standing.{Standing, known, unknown, Agrees, Fits, Soun
 use Rattle.knowing.specs.Know.{know}
 use Rattle.knowing.specs.Fill.{fill, filled, filled-fits, filled-good}
 use Rattle.knowing.specs.Moves.{still-fits}
+use Rattle.knowing.specs.Exact.{know-more}
 use Rattle.knowing.specs.Range.{know-sound}
 use Rattle.knowing.specs.Turn.{inTurn}
 use Rattle.whole.specs.Clear.{Settled, Clear, stays-settled, comes-from}
@@ -42,15 +43,24 @@ filled-twice unknown v a b = absurd (omega arith)
 -- Where an event carries what it may, its rule keeps facts in range.
 module _ {E F : Type 0} (same? : Discrete F) (range : F → ℕ) (two : (f : F) → 2 ≤ range f) (move : E → Rule F F) (Carries : E → Type 0)
     (ranged : (e : E) → Carries e → Ranged range range (move e)) where
-  knowing-sound : (e : E) (k : F → Standing) → Carries e → Sound range k → Sound range (know same? range (move e) k)
+  pub knowing-sound : (e : E) (k : F → Standing) → Carries e → Sound range k → Sound range (know same? range (move e) k)
   knowing-sound e k b s = know-sound same? range (λ f. let t = two f in omega arith) range (move e) k (ranged e b) s
 
-  turn-sound : (es : List E) (k : F → Standing) → Each Carries es → Sound range k → Sound range (inTurn same? range (map move es) k)
+  -- Known values stay in range.
+  pub turn-sound : (es : List E) (k : F → Standing) → Each Carries es → Sound range k → Sound range (inTurn same? range (map move es) k)
   turn-sound [] k b s = s
   turn-sound (e ∷ es) k b s = turn-sound es (know same? range (move e) k) (b .1) (knowing-sound e k (b .0) s)
 
-  result-good : (e : E) → Carries e → (c y : F → ℕ) → Good range c → Result range (move e) c y → Good range y
+  pub result-good : (e : E) → Carries e → (c y : F → ℕ) → Good range c → Result range (move e) c y → Good range y
   result-good e b c y good made f = allowed-below (range f) (y f) (run (move e) c f) (keeps-range range range (move e) c good (ranged e b) f) (made f)
+
+  -- A start that knows more, and contradicts nothing, ends knowing at least as much, with the same values.
+  pub turn-more : (es : List E) (k l : F → Standing) → Each Carries es → Sound range k → Sound range l → ((f : F) (v : ℕ) → k f ≡ known v → l f ≡ known v)
+      → (f : F) (v : ℕ) → inTurn same? range (map move es) k f ≡ known v → inTurn same? range (map move es) l f ≡ known v
+  turn-more [] k l b s t more = more
+  turn-more (e ∷ es) k l b s t more =
+      turn-more es (know same? range (move e) k) (know same? range (move e) l) (b .1) (knowing-sound e k (b .0) s) (knowing-sound e l (b .0) t)
+      (know-more same? range two range two (move e) k l s t more)
 
   -- A chip that fitted fits, wherever the events have led it.
   pub ends-fit : (es : List E) (k : F → Standing) → Each Carries es → Sound range k → (c x : F → ℕ) → Good range c → Fits k c

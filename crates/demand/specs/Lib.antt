@@ -1,0 +1,4 @@
+pub mod Bytes
+pub mod Segment
+pub mod Character
+pub mod Append
