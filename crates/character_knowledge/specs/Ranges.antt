@@ -1,5 +1,4 @@
 -- Number 2, taken apart: the single facts in range, and that with the rows it is every fact.
-use Prim.Native.Nat.{ℕ}
 use mathlib.Core.Path.{_≡_}
 use lib.ListN.{length}
 use Rattle.knowing.specs.Standing.{Standing, Within, Sound}

@@ -8,7 +8,7 @@ use mathlib.Core.Bool.{Bool, true, false}
 use lib.Dec.{eqb}
 use borrow.Author.Tests.{eqb-true, eqb-false, eq-eqb, ne-eqb}
 use Rattle.rules.specs.Choice.{whether}
-use Rattle.rules.specs.Rule.{Rule, gives, look}
+use Rattle.rules.specs.Rule.{gives, look}
 use Rattle.rules.specs.Change.{keep}
 use Rattle.knowing.specs.Standing.{Standing, known, unknown}
 use Rattle.knowing.specs.Know.{learn, join, common, know}

@@ -1,7 +1,7 @@
 -- Replaying two recordings one after the other is replaying their concatenation, where its length is allowed. The argument: the walk over both is the walk
 -- over the first and then over the second (`recording/Append.walked-append`), and events in turn are what they are in one row.
 use Prim.Native.Nat.{ℕ}
-use mathlib.Core.Path.{_≡_, refl, sym, ap, _∙_, subst⁻¹}
+use mathlib.Core.Path.{_≡_, sym, ap, _∙_, subst⁻¹}
 use mathlib.Core.List.{List, _++_, map, map-append}
 use lib.ListN.{length}
 use Rattle.rules.specs.Rule.{Rule}

@@ -1,19 +1,17 @@
 -- The events of a recording carry bytes. The argument: an event carries what stands in its record, and a recording is bytes.
 use Prim.Native.Nat.{ℕ, zero, suc, _+_, _<_}
-use mathlib.Core.Path.{_≡_, refl, subst, subst⁻¹}
+use mathlib.Core.Path.{subst, subst⁻¹}
 use mathlib.Core.List.{List, [], _∷_}
 use lib.ListN.{length, getD, drop}
 use lib.Seq.{getD-drop}
 use lib.Dec.{eqb, ltb}
-use Rattle.rules.specs.Choice.{whether, whether-all}
-use Rattle.terms.specs.declared.Event.{Event}
-use Rattle.terms.specs.declared.Event.the-variants.{Power, Falls, ByteIn, Rises, Gap, Unfinished, Keys, Switches, ByteOut}
+use Rattle.rules.specs.Choice.{whether-all}
 use Rattle.terms.specs.Event.{Bytes}
 use Rattle.terms.specs.declared.Part.{Part}
 use Rattle.recording.specs.declared.read.Read.{Read}
 use Rattle.recording.specs.declared.read.Read.the-variants.{Is, Refused}
 use Rattle.recording.specs.Record.{listed, belongs, bodyOf, allowed, eventOf, front}
-use Rattle.recording.specs.Walk.{Walk, next, stops, walk, walked, events}
+use Rattle.recording.specs.Walk.{next, stops, walk, walked, events}
 use Rattle.whole.specs.Usual.{Each}
 
 -- Every element is a byte. This holds of every recording that code is lent.

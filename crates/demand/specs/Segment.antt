@@ -3,12 +3,11 @@
 use Prim.Native.Nat.{ℕ}
 use mathlib.Core.Path.{_≡_, sym, _∙_, subst⁻¹}
 use mathlib.Core.List.{List, map}
-use lib.ListN.{length, drop}
+use lib.ListN.{drop}
 use Rattle.rules.specs.Rule.{Rule}
 use Rattle.rules.specs.Range.{Good}
 use Rattle.rules.specs.Turn.{Ends}
 use Rattle.knowing.specs.Standing.{Standing, known, Agrees, Fits, Within, Sound}
-use Rattle.terms.specs.declared.Event.{Event}
 use Rattle.terms.specs.Event.{Bytes}
 use Rattle.terms.specs.declared.Part.{Part}
 use Rattle.recording.specs.Walk.{walked, events}

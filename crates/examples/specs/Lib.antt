@@ -1,3 +1,3 @@
 pub mod Painting
 pub mod Knowing
-pub mod Sending
+pub mod Table

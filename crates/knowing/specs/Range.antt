@@ -1,6 +1,6 @@
 -- What a rule in range makes of a knowledge in range is in range. The argument, by induction on the rule: a form in range is known to be in range
 -- or unknown, and so is what several ways in range have in common.
-use Prim.Native.Nat.{ℕ, zero, suc, _<_, _≤_}
+use Prim.Native.Nat.{ℕ, _<_, _≤_}
 use native.Mathlib.Omega.{arith}
 use mathlib.Core.Path.{_≡_, refl, subst⁻¹, subst}
 use Rattle.rules.specs.Rule.{Form, value, copy, free, Rule, gives, look}

@@ -1,12 +1,12 @@
 -- Demand 3 for one event, and the report, in the paper's words: what `hear` and `next_sent` promise is exactly what all chips that fit agree on.
-use Prim.Native.Nat.{ℕ, _≤_}
+use Prim.Native.Nat.{ℕ}
 use native.Mathlib.Omega.{arith}
 use mathlib.Core.Path.{_≡_, subst⁻¹}
 use Rattle.rules.specs.Turn.{Result}
 use Rattle.rules.specs.Range.{Good}
 use Rattle.knowing.specs.Standing.{Standing, known, Fits, Sound, Exact}
 use Rattle.knowing.specs.Moves.{AllHave}
-use Rattle.knowing.specs.Event.{event-exact, event-fits, event-more, event-sound}
+use Rattle.knowing.specs.Event.{event-exact, event-fits, event-sound}
 use Rattle.knowing.specs.Exact.{know-exact}
 use Rattle.terms.specs.declared.Event.{Event}
 use Rattle.terms.specs.Event.{Bytes}

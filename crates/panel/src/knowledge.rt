@@ -1,5 +1,4 @@
 // What is known of a panel. Its part byte stands beside it, and says which half speaks of it; the other half is kept as it is.
-ghost use mathlib.Core.Path.{_≡_};
 ghost use Rattle.panel.specs.View.{KnowsNothing};
 
 pub struct Panel {

@@ -2,7 +2,7 @@
 -- its end; so the walk goes through the first and then through the second.
 use Prim.Native.Nat.{ℕ, zero, suc, _+_, _<_, _≤_}
 use native.Mathlib.Omega.{arith}
-use mathlib.Core.Path.{_≡_, refl, sym, ap, _∙_, subst, subst⁻¹}
+use mathlib.Core.Path.{_≡_, refl, sym, ap, _∙_}
 use mathlib.Core.List.{List, [], _∷_, _++_}
 use mathlib.Core.Bool.{Bool, true, false}
 use lib.ListN.{length, drop, getD, length-drop, length-append}
@@ -16,7 +16,7 @@ use Rattle.terms.specs.declared.Part.{Part}
 use Rattle.recording.specs.declared.read.Read.{Read}
 use Rattle.recording.specs.declared.read.Read.the-variants.{Is, Refused}
 use Rattle.recording.specs.declared.read.Refusal.{Refusal}
-use Rattle.recording.specs.declared.read.Refusal.the-variants.{Unlisted, Foreign, CutShort, Forbidden}
+use Rattle.recording.specs.declared.read.Refusal.the-variants.{Unlisted, Foreign, CutShort}
 use Rattle.recording.specs.declared.ending.Ending.{Ending}
 use Rattle.recording.specs.declared.ending.Ending.the-variants.{Done, Stops}
 use Rattle.recording.specs.Record.{listed, belongs, bodyOf, ofBody, ofKind, front}
@@ -140,7 +140,7 @@ append (suc n) (suc N) p at (b ∷ l) m h g q =
   where
     go : (r : Read) → front p (b ∷ l) ≡ r → endOf (by n p at (b ∷ l) r) ≡ Done
         → ((k : ℕ) → length (drop k (b ∷ l)) ≤ n → length (drop k (b ∷ l) ++ m) ≤ N → endOf (walk n p (at + k) (drop k (b ∷ l))) ≡ Done
-            → Joined (walk N p (at + k) (drop k (b ∷ l) ++ m)) (walk n p (at + k) (drop k (b ∷ l))) (walk (length m) p (at + k + length (drop k (b ∷ l))) m))
+        → Joined (walk N p (at + k) (drop k (b ∷ l) ++ m)) (walk n p (at + k) (drop k (b ∷ l))) (walk (length m) p (at + k + length (drop k (b ∷ l))) m))
         → Joined (walk (suc N) p at (b ∷ l ++ m)) (by n p at (b ∷ l) r) (walk (length m) p (at + length (b ∷ l)) m)
     go (Is e k) f d ih =
         let fit = record-fits p (b ∷ l) e k f in

@@ -2,14 +2,13 @@
 -- at least one byte and no more than there are, so that as many steps as bytes are enough.
 use Prim.Native.Nat.{ℕ, zero, suc, _+_, _-_, _<_, _≤_}
 use native.Mathlib.Omega.{arith}
-use mathlib.Core.Path.{_≡_, refl, sym, ap, _∙_, subst, subst⁻¹}
+use mathlib.Core.Path.{_≡_, refl, ap, _∙_, subst}
 use mathlib.Core.List.{List, [], _∷_}
-use mathlib.Core.Bool.{Bool, true, false}
 use lib.ListN.{length, drop, getD, length-drop}
-use lib.Seq.{drop-drop, drop-cons}
+use lib.Seq.{drop-drop}
 use lib.Dec.{ltb}
 use borrow.Author.Tests.{ltb-true}
-use Rattle.rules.specs.Choice.{whether, whether-all}
+use Rattle.rules.specs.Choice.{whether-all}
 use Rattle.terms.specs.declared.Event.{Event}
 use Rattle.terms.specs.declared.Event.the-variants.{Power, Falls, ByteIn, Rises, Gap, Unfinished, Keys, Switches, ByteOut}
 use Rattle.terms.specs.declared.Place.{Place}
@@ -17,8 +16,7 @@ use Rattle.terms.specs.declared.Part.{Part}
 use Rattle.recording.specs.declared.read.Read.{Read}
 use Rattle.recording.specs.declared.read.Read.the-variants.{Is, Refused}
 use Rattle.recording.specs.declared.read.Refusal.{Refusal}
-use Rattle.recording.specs.declared.read.Refusal.the-variants.{Unlisted, Foreign, CutShort, Forbidden}
-use Rattle.recording.specs.Record.{listed, belongs, bodyOf, allowed, eventOf, ofBody, front}
+use Rattle.recording.specs.Record.{listed, belongs, bodyOf, allowed, front}
 use Rattle.recording.specs.declared.ending.Ending.{Ending}
 use Rattle.recording.specs.declared.ending.Ending.the-variants.{Done, Stops}
 use Rattle.recording.specs.Walk.{Walk, done, stops, next, walk, walked, endOf, onGap, behindGap}

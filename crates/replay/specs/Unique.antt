@@ -1,11 +1,10 @@
 -- Two answers of a replay that meet its promise are equal. The argument: the number and place fix the answer, and what is known of every fact fixes the
 -- knowledge.
 use Prim.Native.Nat.{ℕ, zero, suc, _+_}
-use mathlib.Core.Path.{_≡_, refl, sym, ap, _∙_}
+use mathlib.Core.Path.{_≡_, refl, sym, _∙_}
 use mathlib.Core.List.{List}
 use lib.ListN.{drop}
 use Rattle.terms.specs.declared.Place.{Place}
-use Rattle.terms.specs.declared.Part.{Part}
 use Rattle.terms.specs.declared.Part.the-variants.{Pt6302, Pt6312, Pt6315}
 use Rattle.terms.specs.declared.PartRead.{PartRead}
 use Rattle.terms.specs.declared.PartRead.the-variants.{Is, Refused}
@@ -19,7 +18,7 @@ use Rattle.segment.specs.declared.chip.Family.the-variants as OfFamily
 use Rattle.segment_knowledge.specs.Unique as OfSegment
 use Rattle.character_knowledge.specs.Unique as OfCharacter
 use Rattle.panel.specs.declared.knowledge.Panel.{Panel}
-use Rattle.panel.specs.View.{Where, good, bad}
+use Rattle.panel.specs.View.{good, bad}
 use Rattle.panel.specs.Unique.{Shaped}
 use Rattle.replay.specs.declared.answer.Answer.{Answer}
 use Rattle.replay.specs.declared.answer.Answer.the-variants.{Done, NoPart, OutOfRange, BeyondEnd, TooLong, Unlisted, Foreign, CutShort, Forbidden}

@@ -20,7 +20,7 @@ use Rattle.segment.specs.declared.command.Command.the-variants.{Mode, Te
 use Rattle.segment.specs.Fact.{Fact, same?, cell, address, dataMode, stepping, mode, dimming, display, led, key, switches, readCount, position}
 use Rattle.segment.specs.Value.{pointer, data-mode, steps, shows, at-position}
 use Rattle.segment.specs.Command.{commandOf}
-use Rattle.segment.specs.Move.{Forms, sets, then, nothing, toMode, commanded, after, storedAt, stored, written, byteIn, switchesLatched, move}
+use Rattle.segment.specs.Move.{Forms, sets, then, nothing, toMode, commanded, after, storedAt, stored, written, byteIn, move}
 
 -- The strobe and unfinished bits leave every fact alone but the position.
 pub strobe-leaves : (s : Sizes) (n : ℕ) (f : Fact) → f ≢ position → Leaves f (move s Falls) × Leaves f (move s Rises) × Leaves f (move s (Unfinished n))

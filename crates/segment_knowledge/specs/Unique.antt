@@ -1,7 +1,7 @@
 -- Two knowledges that say the same are equal. The argument: there is one code for each standing, and each field is that of a fact.
-use Prim.Native.Nat.{ℕ, suc}
+use Prim.Native.Nat.{suc}
 use native.Mathlib.Omega.{arith}
-use mathlib.Core.Path.{_≡_, refl, sym, ap}
+use mathlib.Core.Path.{_≡_, refl, sym}
 use lib.ListN.{length}
 use Rattle.knowing.specs.Join.{not-known, known-one}
 use Rattle.standing.specs.View.{same-single}

@@ -1,5 +1,5 @@
 -- A knowledge as a function from facts to what is known of them.
-use Prim.Native.Nat.{ℕ, suc}
+use Prim.Native.Nat.{suc}
 use lib.ListN.{getD}
 use Rattle.rules.specs.Rule.{Rule}
 use Rattle.knowing.specs.Standing as Of

@@ -5,15 +5,13 @@ use native.Mathlib.Decide.{decLt}
 use mathlib.Core.Path.{_≡_, refl, ap, _∙_, subst}
 use mathlib.Core.Bool.{Bool, true, false}
 use mathlib.Core.List.{List}
-use lib.ListN.{length, length-set, getD, set, replicate}
-use lib.Seq.{getD-set-same, getD-set-other}
+use lib.ListN.{length, length-set, getD, set}
 use lib.Dec.{ltb}
-use borrow.Author.Tests.{ne-eqb}
 use Rattle.rules.specs.Choice.{whether}
-use Rattle.rules.specs.Rule.{Form, value, copy, look}
+use Rattle.rules.specs.Rule.{value, copy, look}
 use Rattle.rules.specs.Change.{keep, change}
 use Rattle.knowing.specs.Standing as Of
-use Rattle.knowing.specs.Know.{lifted, join, common}
+use Rattle.knowing.specs.Know.{lifted, common}
 use Rattle.knowing.specs.Look.{look-unknown}
 use Rattle.segment.specs.declared.chip.Sizes.{Sizes}
 use Rattle.segment.specs.Fact.{Fact, same?, range, cell, address, dataMode, stepping, mode, dimming, display, led, key, switches, readCount, position}

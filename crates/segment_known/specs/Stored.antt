@@ -6,10 +6,10 @@ use mathlib.Core.Path.{_≡_, refl, sym, ap, _∙_, subst, subst⁻¹}
 use mathlib.Core.Bool.{Bool}
 use borrow.Author.Tests.{lt-ltb}
 use Rattle.rules.specs.Choice.{whether}
-use Rattle.rules.specs.Rule.{Form, value, look}
+use Rattle.rules.specs.Rule.{look}
 use Rattle.rules.specs.Change.{keep}
 use Rattle.knowing.specs.Standing.{Standing, known, unknown}
-use Rattle.knowing.specs.Know.{lifted, learn, join, common, know}
+use Rattle.knowing.specs.Know.{learn, join, common, know}
 use Rattle.knowing.specs.Join.{not-known, known-one, same-standing, join-swap, common-each, common-same, common-two, common-apart}
 use Rattle.knowing.specs.Look.{look-known, look-unknown}
 use Rattle.knowing.specs.Changed.{set-same, set-other, learn-other}

@@ -13,7 +13,6 @@ use segment_knowledge::at;
 use segment_knowledge::both;
 use segment_knowledge::with_data;
 use standing::Standing;
-ghost use mathlib.Core.Path.{_≡_};
 ghost use Rattle.rules.specs.Rule.{look};
 ghost use Rattle.segment.specs.Family.{sizes};
 ghost use Rattle.segment.specs.Fact.{dataMode, readCount, position};

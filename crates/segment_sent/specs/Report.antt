@@ -1,5 +1,4 @@
 -- A report as what is known of the byte to be sent next, not driven being one more value than a byte has.
-use mathlib.Core.Path.{_≡_}
 use Rattle.rules.specs.Rule.{Rule}
 use Rattle.knowing.specs.Standing.{Standing, known, unknown}
 use Rattle.knowing.specs.Ways as Ways

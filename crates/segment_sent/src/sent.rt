@@ -10,7 +10,7 @@ use segment_knowledge::at;
 use segment_knowledge::with_data;
 use standing::Standing;
 ghost use mathlib.Core.Path.{_≡_};
-ghost use Prim.Native.Nat.{ℕ, _<_};
+ghost use Prim.Native.Nat.{_<_};
 ghost use lib.ListN.{getD};
 ghost use Rattle.rules.specs.Rule.{look};
 ghost use Rattle.knowing.specs.Standing.{unknown, Within, Sound};

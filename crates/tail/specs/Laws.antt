@@ -1,12 +1,11 @@
 -- What stays the same while code looks for gaps, and that the tail lies within the recording.
-use Prim.Native.Nat.{ℕ, _+_, _<_, _≤_}
+use Prim.Native.Nat.{ℕ, _+_, _≤_}
 use native.Mathlib.Omega.{arith}
-use mathlib.Core.Path.{_≡_, refl, sym, ap, _∙_, subst, subst⁻¹}
-use mathlib.Core.Bool.{Bool, true, false}
+use mathlib.Core.Path.{_≡_, refl, sym, ap, _∙_}
 use mathlib.Core.List.{List}
 use lib.ListN.{length}
 use lib.Dec.{ltb}
-use Rattle.rules.specs.Choice.{whether, whether-all}
+use Rattle.rules.specs.Choice.{whether-all}
 use Rattle.terms.specs.declared.Event.{Event}
 use Rattle.terms.specs.declared.Part.{Part}
 use Rattle.terms.specs.declared.PartRead.{PartRead}
@@ -19,7 +18,7 @@ use Rattle.recording.specs.declared.ending.Ending.the-variants.{Done, Stops}
 use Rattle.replay.specs.declared.answer.Answer.the-variants as A
 use Rattle.replay.specs.Answer.{refusedAs}
 use Rattle.tail.specs.declared.gaps.Found.{Found}
-use Rattle.tail.specs.Tail.{none, foundBy, foundIn, found, tailOf}
+use Rattle.tail.specs.Tail.{none, foundBy, foundIn, found}
 
 -- What is left of the walk, from the last gap so far, ends as the whole walk does.
 pub record Kept (whole rest : Walk) (start : ℕ) : Type 0 where

@@ -10,7 +10,6 @@ use Rattle.knowing.specs.Ways.{Knows}
 use Rattle.terms.specs.declared.Event.{Event}
 use Rattle.recording.specs.Walk.{Walk, done, stops, next, events, endOf}
 use Rattle.recording.specs.declared.read.Refusal.{Refusal}
-use Rattle.recording.specs.declared.ending.Ending.{Ending}
 use Rattle.recording.specs.declared.ending.Ending.the-variants.{Done, Stops}
 use Rattle.walks.specs.Left.{InTurn}
 

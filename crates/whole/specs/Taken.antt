@@ -2,7 +2,7 @@
 -- Where the position is known, what holds along one fitting chip holds along the knowledge.
 use Prim.Native.Nat.{ℕ, _≤_}
 use native.Mathlib.Omega.{arith}
-use mathlib.Core.Path.{_≡_, refl}
+use mathlib.Core.Path.{refl}
 use mathlib.Core.List.{List, [], _∷_}
 use Rattle.rules.specs.Rule.{Rule, Outcome, becomes, anything, run}
 use Rattle.rules.specs.Range.{Good, Ranged}
@@ -37,10 +37,9 @@ module _ {E F : Type 0} (same? : Discrete F) (range : F → ℕ) (two : (f : F) 
   pub takes-throughout : (es : List E) (k : F → Standing) (c : F → ℕ) → Each Carries es → Sound range k → Good range c → Fits k c → Takes range move P es c → Throughout same? range move P es k
   takes-throughout [] k c b s good fits t = tt
   takes-throughout (e ∷ es) k c b s good fits t =
-      let made : Result range (move e) c (λ f. some (run (move e) c f)) = λ f. allowed (range f) (run (move e) c f) (two f) in
-      (
+      let made : Result range (move e) c (λ f. some (run (move e) c f)) = λ f. allowed (range f) (run (move e) c f) (two f) in (
         lower e k c fits (t .0),
         takes-throughout es (know same? range (move e) k) (λ f. some (run (move e) c f)) (b .1) (knowing-sound same? range two move Carries ranged e k (b .0) s)
-        (result-good same? range two move Carries ranged e (b .0) c (λ f. some (run (move e) c f)) good made) (still-fits same? range two (move e) k s c good fits (λ f. some (run (move e) c f)) made)
-        (t .1 (λ f. some (run (move e) c f)) made),
+            (result-good same? range two move Carries ranged e (b .0) c (λ f. some (run (move e) c f)) good made) (still-fits same? range two (move e) k s c good fits (λ f. some (run (move e) c f)) made)
+            (t .1 (λ f. some (run (move e) c f)) made),
       )

@@ -1,10 +1,10 @@
 -- `character_known::bytes::show_at` meets its contract: the byte is stored at the address, which steps on.
 -- Assumes nothing.
 use native.Mathlib.Omega.{arith}
-use mathlib.Core.Path.{_≡_, refl, ap, _∙_}
+use mathlib.Core.Path.{refl, ap, _∙_}
 use Rattle.character_knowledge.specs.View.{kview}
 use mathlib.Core.List.{List}
-use Prim.Native.Nat.{ℕ, _+_, _*_, _%_, _<_}
+use Prim.Native.Nat.{ℕ, _%_, _<_}
 use lib.ListN.{length, getD}
 use Rattle.rules.specs.Change.{keep}
 use Rattle.standing.specs.Codes.{coded-set}

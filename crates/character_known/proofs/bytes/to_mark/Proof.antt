@@ -1,6 +1,5 @@
 -- `character_known::bytes::to_mark` meets its contract: at a known address the pair is stored there, at an unknown one it may be in any cell.
 -- Assumes nothing.
-use native.Mathlib.Omega.{arith}
 use mathlib.Core.Path.{refl, ap}
 use Rattle.character_knowledge.specs.View.{kview, points}
 use Rattle.character_known.specs.Cells.{adram-open}

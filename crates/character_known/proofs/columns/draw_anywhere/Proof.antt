@@ -3,7 +3,6 @@
 use native.Mathlib.Omega.{arith}
 use mathlib.Core.Path.{refl, ap}
 use Rattle.standing.specs.View.{stands}
-use Rattle.character_knowledge.specs.View.{kview, points}
 use Rattle.character.specs.Laws.{every}
 use Rattle.character_known.specs.Columns.{place-open}
 use borrow.Author.Needs.{needs}

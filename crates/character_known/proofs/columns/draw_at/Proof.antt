@@ -1,7 +1,7 @@
 -- `character_known::columns::draw_at` meets its contract: the column is stored in its place, and the next follows.
 -- Assumes nothing.
 use native.Mathlib.Omega.{arith}
-use mathlib.Core.Path.{_≡_, refl, ap, _∙_}
+use mathlib.Core.Path.{refl, ap, _∙_}
 use Rattle.character_knowledge.specs.View.{kview}
 use mathlib.Core.List.{List}
 use Prim.Native.Nat.{ℕ, _+_, _*_, _%_, _<_}

@@ -3,7 +3,7 @@
 use native.Mathlib.Omega.{arith}
 use mathlib.Core.Path.{refl, ap}
 use Rattle.standing.specs.View.{stands}
-use Rattle.character_knowledge.specs.View.{kview, points}
+use Rattle.character_knowledge.specs.View.{kview}
 use Rattle.character.specs.Laws.{every}
 use Rattle.character.specs.Move.{drawn}
 use Rattle.character.specs.Fact.{same?, range, column}

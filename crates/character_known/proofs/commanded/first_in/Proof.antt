@@ -1,6 +1,6 @@
 -- `character_known::commanded::first_in` meets its contract: each command goes by its rule.
 -- Assumes nothing.
-use mathlib.Core.Path.{refl, sym, ap, _∙_}
+use mathlib.Core.Path.{sym, ap, _∙_}
 use Rattle.knowing.specs.Standing.{known}
 use Rattle.rules.specs.Rule.{gives}
 use Rattle.character.specs.Move.{commanded}

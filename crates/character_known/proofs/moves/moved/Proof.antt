@@ -1,6 +1,6 @@
 -- `character_known::moves::moved` meets its contract: each event goes by its rule.
 -- Assumes nothing.
-use mathlib.Core.Path.{refl, sym, ap, _∙_}
+use mathlib.Core.Path.{refl, ap}
 use Rattle.character.specs.Move.{nothing, move}
 use Rattle.character.specs.Fact.{same?, range, position}
 use Rattle.knowing.specs.Ways.{as-rule, learnt}

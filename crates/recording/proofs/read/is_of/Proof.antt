@@ -1,6 +1,6 @@
 -- `recording::read::is_of` meets its contract: 07 and 09, 08, and the others.
 -- Assumes nothing.
-use mathlib.Core.Path.{refl, sym}
+use mathlib.Core.Path.{sym}
 use Rattle.recording.specs.Laws.{no-inputs}
 use borrow.Author.Needs.{needs}
 use Rattle.recording.proofs.read.is_of.Statement.{statement}

@@ -1,8 +1,8 @@
 -- `replay::segments::segment_from` meets its contract: by how the walk ends.
 -- Assumes nothing.
 use native.Mathlib.Omega.{arith}
-use mathlib.Core.Path.{_≡_, refl, sym, _∙_, subst}
-use lib.ListN.{length, drop, length-drop}
+use mathlib.Core.Path.{refl, sym, _∙_, subst}
+use lib.ListN.{drop, length-drop}
 use Prim.Native.Nat.{_+_}
 use Rattle.replay.specs.Laws.{part-from, left-by}
 use Rattle.replay.specs.Replay.{ends-by}

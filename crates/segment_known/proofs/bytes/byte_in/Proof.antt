@@ -2,7 +2,7 @@
 -- Assumes nothing.
 use Rattle.segment_knowledge.specs.View.{kview}
 use Rattle.segment.specs.Family.{sizes}
-use Rattle.segment.specs.Move.{nothing, commanded, written, byteIn}
+use Rattle.segment.specs.Move.{commanded, written, byteIn}
 use Rattle.segment.specs.Fact.{dataMode, position}
 use Rattle.rules.specs.Rule.{look}
 use Rattle.segment.specs.Command.{commandOf}

@@ -4,7 +4,7 @@ use Rattle.segment_knowledge.specs.View.{kview}
 use mathlib.Core.Path.{refl}
 use Rattle.segment.specs.Family.{sizes}
 use Rattle.segment.specs.Move.{nothing, commanded, written, byteIn}
-use Rattle.segment.specs.Fact.{dataMode, position}
+use Rattle.segment.specs.Fact.{dataMode}
 use Rattle.rules.specs.Rule.{look}
 use Rattle.segment.specs.Command.{commandOf}
 use Rattle.knowing.specs.Ways.{as-rule}

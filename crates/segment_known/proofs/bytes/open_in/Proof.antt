@@ -1,8 +1,8 @@
 -- `segment_known::bytes::open_in` meets its contract: a known data mode goes its one way, an unknown one all that the part has.
 -- Assumes nothing.
 use Rattle.segment_knowledge.specs.View.{kview}
-use Rattle.segment.specs.Move.{sets, nothing, stored, written}
-use Rattle.segment.specs.Fact.{address, dataMode, mode, led}
+use Rattle.segment.specs.Move.{sets, stored, written}
+use Rattle.segment.specs.Fact.{address, dataMode, led}
 use Rattle.rules.specs.Rule.{gives, look}
 use Prim.Native.Nat.{_%_}
 use Rattle.rules.specs.Change.{keep}

@@ -2,7 +2,7 @@
 -- Assumes nothing.
 use Rattle.segment_knowledge.specs.View.{kview}
 use Rattle.segment.specs.Family.{sizes}
-use Rattle.segment.specs.Move.{nothing, storedAt}
+use Rattle.segment.specs.Move.{storedAt}
 use Rattle.segment.specs.Fact.{cell, stepping}
 use mathlib.Core.Path.{refl, ap}
 use Rattle.standing.specs.View.{stands}

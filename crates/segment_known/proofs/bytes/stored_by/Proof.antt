@@ -2,8 +2,8 @@
 -- Assumes nothing.
 use Rattle.segment_knowledge.specs.View.{kview}
 use Rattle.segment.specs.Family.{sizes}
-use Rattle.segment.specs.Move.{nothing, stored}
-use Rattle.segment.specs.Fact.{cell, address}
+use Rattle.segment.specs.Move.{stored}
+use Rattle.segment.specs.Fact.{address}
 use Rattle.knowing.specs.Ways.{known-way}
 use mathlib.Core.Path.{refl, sym, ap}
 use Rattle.segment_knowledge.specs.View.{points}

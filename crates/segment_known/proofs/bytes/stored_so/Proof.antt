@@ -1,7 +1,7 @@
 -- `segment_known::bytes::stored_so` meets its contract: the cell is one of the array's, so its code is the rule's; each arm knows whether the address steps on.
 -- Assumes nothing.
 use Rattle.segment_knowledge.specs.View.{kview}
-use Rattle.segment.specs.Fact.{cell, address}
+use Rattle.segment.specs.Fact.{cell}
 use mathlib.Core.Path.{refl, ap, _∙_}
 use native.Mathlib.Omega.{arith}
 use Rattle.standing.specs.View.{coded}

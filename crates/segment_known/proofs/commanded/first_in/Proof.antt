@@ -2,7 +2,7 @@
 -- Assumes nothing.
 use Rattle.segment_knowledge.specs.View.{kview}
 use Rattle.segment.specs.Family.{sizes}
-use Rattle.segment.specs.Move.{nothing, commanded}
+use Rattle.segment.specs.Move.{commanded}
 use mathlib.Core.Path.{sym, ap, _∙_}
 use Rattle.segment.specs.Laws.{every}
 use Rattle.segment.specs.Fact.{cell, address, dataMode, stepping, mode, dimming, display, led, key, switches, readCount, position}

@@ -2,7 +2,7 @@
 -- Assumes nothing.
 use Rattle.segment_knowledge.specs.View.{kview}
 use Rattle.segment.specs.Family.{sizes}
-use Rattle.segment.specs.Move.{nothing, toMode}
+use Rattle.segment.specs.Move.{toMode}
 use mathlib.Core.Path.{ap}
 use Rattle.standing.specs.View.{stands}
 use Rattle.segment.specs.Laws.{every}

@@ -2,7 +2,7 @@
 -- Assumes nothing.
 use Rattle.segment_knowledge.specs.View.{kview}
 use Rattle.segment.specs.Family.{sizes}
-use Rattle.segment.specs.Move.{nothing, readOut, byteOut}
+use Rattle.segment.specs.Move.{readOut, byteOut}
 use Rattle.segment.specs.Fact.{dataMode, position}
 use Rattle.rules.specs.Rule.{look}
 use mathlib.Core.Path.{refl, ap}

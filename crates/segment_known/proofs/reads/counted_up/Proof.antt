@@ -2,7 +2,7 @@
 -- Assumes nothing.
 use Rattle.segment_knowledge.specs.View.{kview}
 use Rattle.segment.specs.Family.{sizes}
-use Rattle.segment.specs.Move.{nothing, counted}
+use Rattle.segment.specs.Move.{counted}
 use Rattle.segment.specs.Fact.{readCount}
 use mathlib.Core.Logic.{⊎-elim}
 use mathlib.Core.Path.{_≡_, refl, ap}

@@ -2,7 +2,7 @@
 -- Assumes nothing.
 use Rattle.segment_knowledge.specs.View.{kview}
 use Rattle.segment.specs.Move.{nothing, counted, readOut}
-use Rattle.segment.specs.Fact.{dataMode, mode, readCount}
+use Rattle.segment.specs.Fact.{dataMode, readCount}
 use Rattle.rules.specs.Rule.{look}
 use Rattle.segment.specs.Fact.{range}
 use mathlib.Core.Path.{refl, ap}

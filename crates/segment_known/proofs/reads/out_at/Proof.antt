@@ -4,7 +4,7 @@ use Rattle.segment_knowledge.specs.View.{kview}
 use mathlib.Core.Path.{refl}
 use Rattle.segment.specs.Family.{sizes}
 use Rattle.segment.specs.Move.{nothing, readOut, byteOut}
-use Rattle.segment.specs.Fact.{dataMode, position}
+use Rattle.segment.specs.Fact.{dataMode}
 use Rattle.rules.specs.Rule.{look}
 use Rattle.knowing.specs.Ways.{as-rule}
 use Rattle.segment_known.specs.Ways.{other-out}

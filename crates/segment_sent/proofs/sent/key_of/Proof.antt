@@ -2,7 +2,6 @@
 -- Assumes nothing.
 use native.Mathlib.Omega.{arith}
 use Rattle.segment_sent.specs.Counts.{read-code, no-code}
-use mathlib.Core.Path.{_≡_, refl, sym, ap, _∙_}
 use borrow.Author.Needs.{needs}
 use Rattle.segment_sent.proofs.sent.key_of.Statement.{statement}
 use Rattle.segment_sent.proofs.sent.key_of.Tie as tie

@@ -4,7 +4,7 @@ use Rattle.segment_knowledge.specs.View.{kview}
 use Rattle.segment_sent.specs.Counts.{keys-room, one-key}
 use native.Mathlib.Omega.{arith}
 use borrow.Author.Tests.{lt-ltb, le-ltb}
-use mathlib.Core.Path.{refl, sym}
+use mathlib.Core.Path.{refl}
 use borrow.Author.Needs.{needs}
 use Rattle.segment_sent.proofs.sent.key_sent.Statement.{statement}
 use Rattle.segment_sent.proofs.sent.key_sent.Tie as tie

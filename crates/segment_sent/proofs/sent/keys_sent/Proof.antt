@@ -4,9 +4,9 @@ use Rattle.segment_sent.specs.Counts.{keys-unknown, keys-room, first-key
 use Rattle.segment.specs.Sent.{keySent}
 use Rattle.standing.specs.View.{stands}
 use Rattle.knowing.specs.Ways.{known-way}
-use mathlib.Core.Path.{refl, sym, ap, _∙_}
+use mathlib.Core.Path.{ap}
 use Rattle.segment.specs.Family.{sizes}
-use Rattle.segment.specs.Fact.{same?, range, dataMode, readCount, position, switches}
+use Rattle.segment.specs.Fact.{same?, range, readCount}
 use Rattle.segment_sent.specs.Report.{reports}
 use Rattle.segment_knowledge.specs.View.{kview}
 use borrow.Author.Needs.{needs}

@@ -7,9 +7,9 @@ use Rattle.segment_sent.specs.Counts.{other-mode, switched-in}
 use Rattle.segment.specs.Sent.{notDriven, says, openSent}
 use Rattle.rules.specs.Rule.{value}
 use Rattle.knowing.specs.Ways.{as-rule}
-use mathlib.Core.Path.{refl, sym, ap, _∙_}
+use mathlib.Core.Path.{refl}
 use Rattle.segment.specs.Family.{sizes}
-use Rattle.segment.specs.Fact.{same?, range, dataMode, readCount, position, switches}
+use Rattle.segment.specs.Fact.{same?, range, dataMode}
 use Rattle.segment_sent.specs.Report.{reports}
 use Rattle.segment_knowledge.specs.View.{kview}
 use borrow.Author.Needs.{needs}

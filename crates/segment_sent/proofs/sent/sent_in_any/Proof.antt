@@ -2,15 +2,14 @@
 -- Assumes nothing.
 use Rattle.knowing.specs.Standing.{Within, Sound}
 use mathlib.Core.Path.{subst, subst⁻¹}
-use native.Mathlib.Omega.{arith}
 use Rattle.segment_sent.specs.Counts.{undriven, mode-room, switches-in}
 use Rattle.segment_sent.specs.declared.report.Sending.the-variants.{NotDriven}
 use Rattle.segment.specs.Sent.{openSent, keySent, switchesSent}
 use Rattle.rules.specs.Rule.{look}
 use Rattle.knowing.specs.Ways.{way, first-way, next-way, all-ways, learns-sound}
-use mathlib.Core.Path.{refl, sym, ap, _∙_}
+use mathlib.Core.Path.{refl, ap}
 use Rattle.segment.specs.Family.{sizes}
-use Rattle.segment.specs.Fact.{same?, range, dataMode, readCount, position, switches}
+use Rattle.segment.specs.Fact.{same?, range, dataMode, readCount, switches}
 use Rattle.segment_sent.specs.Report.{reports}
 use Rattle.segment_knowledge.specs.View.{kview}
 use borrow.Author.Needs.{needs}

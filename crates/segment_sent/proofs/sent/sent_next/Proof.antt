@@ -7,9 +7,9 @@ use Rattle.segment.specs.Sent.{sentAt, openSent}
 use Rattle.standing.specs.View.{stands}
 use Rattle.rules.specs.Rule.{look}
 use Rattle.knowing.specs.Ways.{way, known-way, first-way, next-way, all-ways, learns-sound}
-use mathlib.Core.Path.{refl, sym, ap, _∙_}
+use mathlib.Core.Path.{refl, ap}
 use Rattle.segment.specs.Family.{sizes}
-use Rattle.segment.specs.Fact.{same?, range, dataMode, readCount, position, switches}
+use Rattle.segment.specs.Fact.{same?, range, dataMode, position}
 use Rattle.segment_sent.specs.Report.{reports}
 use Rattle.segment_knowledge.specs.View.{kview}
 use borrow.Author.Needs.{needs}

@@ -1,9 +1,7 @@
 -- `standing::codes::meet` meets its contract: the codes passed are met, and the others are as they were, at every step of the loop.
 -- Assumes nothing.
 use borrow.Author.Needs.{scaled-fits}
-use lib.ListN.{length}
-use Prim.Native.Nat.{_+_, _*_, _≤_, _<_, _-_}
-use borrow.Author.Needs.{needs}
+use Prim.Native.Nat.{_≤_, _-_}
 use Prim.Native.Nat.{_≤_, _-_}
 use mathlib.Core.Path.{_≡_, sym}
 use native.Mathlib.Omega.{arith}

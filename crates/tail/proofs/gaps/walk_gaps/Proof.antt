@@ -1,7 +1,7 @@
 -- `tail::gaps::walk_gaps` meets its contract: what is left of the walk, from the last gap so far, ends as the whole walk does.
 -- Assumes nothing.
 use borrow.Author.Needs.{needs}
-use mathlib.Core.Path.{_≡_, sym, _∙_}
+use mathlib.Core.Path.{sym, _∙_}
 use native.Mathlib.Omega.{arith}
 use Prim.Native.Nat.{_+_, _≤_, _-_}
 use lib.ListN.{length, drop, length-drop}

@@ -1,0 +1,6 @@
+pub mod Accepted
+pub mod Follows
+pub mod Strobe
+pub mod Segment
+pub mod Character
+pub mod Replayed

@@ -1,0 +1,80 @@
+// What a replay starts from.
+use panel::Panel;
+use standing::Standing;
+use terms::Address;
+
+// Knowing nothing or everything, and then with a value out of range in a half.
+pub fn panel(known: bool, led: bool, port: bool) -> Panel {
+    let start = if known {
+        all_known()
+    } else {
+        panel::nothing_known()
+    };
+    let segment = if led {
+        wrong_led(start.segment)
+    } else {
+        start.segment
+    };
+    let character = if port {
+        wrong_port(start.character)
+    } else {
+        start.character
+    };
+    Panel { segment, character }
+}
+
+// Both halves in the middle of writing, with a value that shows in every fact.
+fn all_known() -> Panel {
+    Panel {
+        segment: segments(),
+        character: characters(),
+    }
+}
+
+fn segments() -> segment_knowledge::Knowledge {
+    segment_knowledge::Knowledge {
+        cells: [0x6E; 36],
+        address: segment_knowledge::Pointing::At(Address(5)),
+        data: Standing::Known(segment_knowledge::WRITE_DISPLAY),
+        stepping: Standing::Known(segment_knowledge::INCREMENT),
+        mode: Standing::Known(3),
+        dimming: Standing::Known(5),
+        display: Standing::Known(segment_knowledge::ON),
+        led: Standing::Known(9),
+        keys: [0xA1, 0xA2, 0xA3, 0xA4],
+        switches: Standing::Known(6),
+        count: Standing::Known(2),
+        position: Standing::Known(segment_knowledge::OPEN),
+    }
+}
+
+fn characters() -> character_knowledge::Knowledge {
+    character_knowledge::Knowledge {
+        dcram: [0x6E; 16],
+        cgram: [0x6E; 40],
+        adram: [2; 16],
+        dcram_at: character_knowledge::Pointing::At(Address(5)),
+        cgram_at: character_knowledge::Pointing::At(Address(6)),
+        adram_at: character_knowledge::Pointing::At(Address(7)),
+        column: Standing::Known(3),
+        port: Standing::Known(2),
+        duty: Standing::Known(5),
+        digits: Standing::Known(4),
+        lights: Standing::Known(character_knowledge::ON),
+        position: Standing::Known(character_knowledge::DCRAM),
+    }
+}
+
+fn wrong_led(k: segment_knowledge::Knowledge) -> segment_knowledge::Knowledge {
+    segment_knowledge::Knowledge {
+        led: Standing::Known(16),
+        ..k
+    }
+}
+
+fn wrong_port(k: character_knowledge::Knowledge) -> character_knowledge::Knowledge {
+    character_knowledge::Knowledge {
+        port: Standing::Known(4),
+        ..k
+    }
+}
