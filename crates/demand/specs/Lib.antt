@@ -2,3 +2,4 @@ pub mod Bytes
 pub mod Segment
 pub mod Character
 pub mod Append
+pub mod Painting

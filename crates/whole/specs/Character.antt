@@ -24,7 +24,7 @@ use Rattle.character.specs.Touch.{Defined}
 use Rattle.character.specs.Laws.{every}
 use Rattle.character.specs.Range.{ranged, two}
 use Rattle.whole.specs.Clear.{Settled, AllOwn, Clear, keep-own, change-own}
-use Rattle.whole.specs.Usual.{PlainAt, Each, Throughout, plain-less}
+use Rattle.whole.specs.Usual.{PlainAt, Each, plain-less}
 use Rattle.whole.specs.Taken.{Takes, takes-throughout}
 use Rattle.whole.specs.Whole.{ExactAtEnd, exact-at-end}
 
@@ -41,10 +41,6 @@ Steers f = Asked (sort f)
 -- The event is no gap and, where the position is known to be first byte, no undefined command.
 abbrev pub Plain : Event → (Fact → Standing) → Type 0
 Plain e k = PlainAt (at-position First) (λ b. Defined (commandOf b)) e (k position)
-
--- The recording has no gap and no undefined command, from the knowledge k on.
-abbrev pub Usual : List Event → (Fact → Standing) → Type 0
-Usual es k = Throughout same? range move Plain es k
 
 abbrev Fine : Forms → Type 0
 Fine φ = AllOwn Steers φ

@@ -29,7 +29,7 @@ use Rattle.segment.specs.Touch.{Defined}
 use Rattle.segment.specs.Laws.{every}
 use Rattle.segment.specs.Range.{proper, ranged, two}
 use Rattle.whole.specs.Clear.{Settled, Own, AllOwn, Clear, keep-own, change-own}
-use Rattle.whole.specs.Usual.{PlainAt, Each, Throughout, plain-less}
+use Rattle.whole.specs.Usual.{PlainAt, Each, plain-less}
 use Rattle.whole.specs.Taken.{Takes, takes-throughout}
 use Rattle.whole.specs.Whole.{ExactAtEnd, exact-at-end}
 
@@ -47,10 +47,6 @@ Steers f = Asked (sort f)
 -- The event is no gap and, where the position is known to be first byte, no undefined command.
 abbrev pub Plain : Sizes → Event → (Fact → Standing) → Type 0
 Plain s e k = PlainAt (at-position First) (λ b. Defined (commandOf s b)) e (k position)
-
--- The recording has no gap and no undefined command, from the knowledge k on.
-abbrev pub Usual : Sizes → List Event → (Fact → Standing) → Type 0
-Usual s es k = Throughout same? (range s) (move s) (Plain s) es k
 
 abbrev Fine : Forms → Type 0
 Fine φ = AllOwn Steers φ
