@@ -16,7 +16,9 @@ use Rattle.character.specs.Range.{ranged, two}
 use Rattle.character_knowledge.specs.View.{kview}
 use Rattle.panel.specs.declared.knowledge.Panel.{Panel}
 use Rattle.replay.specs.declared.answer.Replayed.{Replayed}
-use Rattle.replay.specs.Replay.{CharacterDone}
+use Rattle.replay.specs.Answer.{number}
+use Rattle.replay.specs.Replay.{CharacterDone, CharacterReplays}
+use Rattle.replay.specs.Accepted.{character-accepted}
 use Rattle.whole.specs.Clear.{Settled}
 use Rattle.whole.specs.Whole.{AllEnd, ends-fit, turn-more, turn-sound}
 use Rattle.whole.specs.Character.{Steers, UsualFor, character-facts}
@@ -26,8 +28,13 @@ use Rattle.demand.specs.Bytes.{AllBytes, carry}
 abbrev pub moves : ℕ → List ℕ → List (Rule Fact Fact)
 moves start l = map move (events (walked Pt6302 (drop start l)))
 
-module _ (k : Panel) (l : List ℕ) (start : ℕ) (r : Replayed) (done : CharacterDone (events (walked Pt6302 (drop start l))) k l r)
-    (sound : Sound range (kview (k .character))) (bytes : AllBytes l) where
+module _ (k : Panel) (l : List ℕ) (start : ℕ) (r : Replayed) (met : CharacterReplays k l start r) (zero : number (r .answer) ≡ 0) (bytes : AllBytes l) where
+  sound : Sound range (kview (k .character))
+  sound = character-accepted k l start r met zero .was
+
+  done : CharacterDone (events (walked Pt6302 (drop start l))) k l r
+  done = character-accepted k l start r met zero .answer
+
   pub character-ends-fit : (c x : Fact → ℕ) → Good range c → Fits (kview (k .character)) c → Ends range (moves start l) c x → Fits (kview (r .panel .character)) x
   character-ends-fit c x good fits ends f =
       subst⁻¹ (λ (t : Standing). Agrees t (x f)) (done .known f)
@@ -38,12 +45,13 @@ module _ (k : Panel) (l : List ℕ) (start : ℕ) (r : Replayed) (done : Charact
       subst⁻¹ (λ (t : Standing). Within (range f) t) (done .known f)
       (turn-sound same? range two move Bytes ranged (events (walked Pt6302 (drop start l))) (kview (k .character)) (carry Pt6302 start l bytes) sound f)
 
-  pub character-knows-more : (more : Panel) (q : Replayed) → CharacterDone (events (walked Pt6302 (drop start l))) more l q → Sound range (kview (more .character))
+  pub character-knows-more : (more : Panel) (q : Replayed) → CharacterReplays more l start q → number (q .answer) ≡ 0
       → ((f : Fact) (v : ℕ) → kview (k .character) f ≡ known v → kview (more .character) f ≡ known v)
       → (f : Fact) (v : ℕ) → kview (r .panel .character) f ≡ known v → kview (q .panel .character) f ≡ known v
-  character-knows-more more q dq sq h f v e =
-      dq .known f
-      ∙ turn-more same? range two move Bytes ranged (events (walked Pt6302 (drop start l))) (kview (k .character)) (kview (more .character)) (carry Pt6302 start l bytes) sound sq h f v (sym (done .known f) ∙ e)
+  character-knows-more more q mq zq h f v e =
+      let a = character-accepted more l start q mq zq in
+      a .answer .known f
+      ∙ turn-more same? range two move Bytes ranged (events (walked Pt6302 (drop start l))) (kview (k .character)) (kview (more .character)) (carry Pt6302 start l bytes) sound (a .was) h f v (sym (done .known f) ∙ e)
 
   -- A fact whose sort is memory: a DCRAM byte, a CGRAM column, an ADRAM pair.
   pub character-cell-exact : Settled Steers (kview (k .character)) → (c : Fact → ℕ) → Good range c → Fits (kview (k .character)) c → UsualFor (events (walked Pt6302 (drop start l))) c

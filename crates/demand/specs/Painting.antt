@@ -3,7 +3,6 @@
 use Prim.Native.Nat.{ℕ, _≤_}
 use native.Mathlib.Omega.{arith}
 use mathlib.Core.Path.{_≡_, _∙_, subst}
-use mathlib.Core.List.{List}
 use lib.ListN.{length, take}
 use lib.Seq.{length-take-le}
 use Rattle.knowing.specs.Standing.{Sound}
@@ -27,20 +26,13 @@ use Rattle.painting.specs.Segment as SegmentPainting
 use Rattle.painting.specs.Character as CharacterPainting
 use Rattle.painter.specs.Stream.{five-length, seven-length}
 use Rattle.panel.specs.declared.knowledge.Panel.{Panel}
-use Rattle.panel.specs.View.{good, bad}
 use Rattle.replay.specs.declared.answer.Replayed.{Replayed}
 use Rattle.replay.specs.Answer.{number}
-use Rattle.replay.specs.Replay.{SegmentDone, CharacterDone, Ends, Tested, SegmentReplays, CharacterReplays}
+use Rattle.replay.specs.Replay.{SegmentDone, CharacterDone, Ends, SegmentReplays, CharacterReplays}
+use Rattle.demand.specs.Append.{passed}
 use Rattle.repainted.specs.Segment as Segment
 use Rattle.repainted.specs.Character as Character
 use Rattle.repainted.specs.Replayed.{segment-replayed, character-replayed}
-
--- What the tests let pass is as the walk has it.
-passed : (G P : Type 0) (k : Panel) (l : List ℕ) (r : Replayed) → G → length l ≤ 65535 → Tested G k l 0 r P → P
-passed G P k l r g h (good a (good b (good c p))) = p
-passed G P k l r g h (good a (good b (bad c p))) = absurd (c (omega arith))
-passed G P k l r g h (good a (bad b p)) = absurd (b h)
-passed G P k l r g h (bad a p) = absurd (a g)
 
 done : (e : Ending) (start : ℕ) (k : Panel) (r : Replayed) (P : Type 0) → e ≡ Done → Ends e start k r P → P
 done e start k r P q h = subst (λ (x : Ending). Ends x start k r P) q h

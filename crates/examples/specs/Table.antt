@@ -26,12 +26,13 @@ use Rattle.segment.specs.Sent.{notDriven, sent}
 use Rattle.character.specs.Fact as Character
 use Rattle.character.specs.Move as CharacterMove
 
--- What is known of a fact, or of the byte to be sent next.
+-- The numbers by which a part's segment facts go; a row of PT6302 says nothing of them.
 abbrev family : Part → Family
 family Pt6302 = OfFamily.Pt6312
 family Pt6312 = OfFamily.Pt6312
 family Pt6315 = OfFamily.Pt6315
 
+-- What is known of a fact, or of the byte to be sent next, after a recording.
 abbrev segmentAfter : Part → List ℕ → Segment.Fact → Standing
 segmentAfter p l = inTurn Segment.same? (Segment.range (sizes (family p))) (map (SegmentMove.move (sizes (family p))) (events (walked p l))) (λ f. unknown)
 
@@ -145,26 +146,27 @@ settings m on =
     fact Segment.address (known 1) ∷ fact Segment.dataMode (known 0) ∷ fact Segment.stepping (known 0) ∷ fact Segment.mode (known m) ∷ fact Segment.dimming (known 0)
     ∷ fact Segment.display (known on) ∷ fact Segment.led (known 0) ∷ fact Segment.readCount (known 0) ∷ []
 
--- Address 01H is pointer value 2, and invalid is 0.
+-- The rows are P1 to P7, P8 (before, with 0F, with 00), P9, P11, P12 (06 03, 06 08) and P13 (before, after one 09, after three). Address 01H is pointer value 2,
+-- and invalid is 0.
 abbrev pub table : List Row
 table =
     record { part = Pt6312; bytes = 0x01 ∷ 0x02 ∷ 0x03 ∷ 0xC0 ∷ 0x03 ∷ 0x5A ∷ 0x04 ∷ []; says = ends 0 7 ∷ fact (Segment.cell 0x00) (known 0x5A) ∷ fact Segment.address (known 2) ∷ blank 1 21 }
-    ∷ record { part = Pt6312; bytes = 0x01 ∷ 0x02 ∷ 0x03 ∷ 0xD5 ∷ 0x03 ∷ 0x11 ∷ 0x03 ∷ 0x22 ∷ 0x04 ∷ []; says = fact (Segment.cell 0x15) (known 0x11) ∷ fact Segment.address (known 0) ∷ [] }
-    ∷ record { part = Pt6312; bytes = 0x01 ∷ 0x02 ∷ 0x03 ∷ 0xD6 ∷ 0x03 ∷ 0x33 ∷ 0x04 ∷ []; says = blank 0 22 }
-    ∷ record { part = Pt6315; bytes = 0x01 ∷ 0x02 ∷ 0x03 ∷ 0xE3 ∷ 0x03 ∷ 0x7F ∷ 0x04 ∷ []; says = fact (Segment.cell 0x23) (known 0x7F) ∷ [] }
-    ∷ record { part = Pt6315; bytes = 0x01 ∷ 0x02 ∷ 0x03 ∷ 0xE4 ∷ 0x03 ∷ 0x7F ∷ 0x04 ∷ []; says = blank 0 36 }
-    ∷ record { part = Pt6312; bytes = 0x01 ∷ 0x02 ∷ 0x03 ∷ 0x44 ∷ 0x04 ∷ 0x02 ∷ 0x03 ∷ 0xC3 ∷ 0x03 ∷ 0xAA ∷ 0x03 ∷ 0xBB ∷ 0x04 ∷ []; says = fact (Segment.cell 0x03) (known 0xBB) ∷ fact Segment.address (known 4) ∷ [] }
-    ∷ record { part = Pt6312; bytes = 0x01 ∷ 0x02 ∷ 0x03 ∷ 0x41 ∷ 0x03 ∷ 0x0E ∷ 0x04 ∷ []; says = fact Segment.led (known 14) ∷ [] }
-    ∷ record { part = Pt6315; bytes = 0x01 ∷ 0x02 ∷ 0x03 ∷ 0x88 ∷ 0x04 ∷ []; says = settings 8 1 }
-    ∷ record { part = Pt6315; bytes = 0x01 ∷ 0x02 ∷ 0x03 ∷ 0x88 ∷ 0x04 ∷ 0x02 ∷ 0x03 ∷ 0x0F ∷ 0x04 ∷ []; says = settings 8 1 }
-    ∷ record { part = Pt6315; bytes = 0x01 ∷ 0x02 ∷ 0x03 ∷ 0x88 ∷ 0x04 ∷ 0x02 ∷ 0x03 ∷ 0x00 ∷ 0x04 ∷ []; says = settings 0 0 }
-    ∷ record { part = Pt6312; bytes = 0x05 ∷ 0x02 ∷ 0x03 ∷ 0xC5 ∷ 0x03 ∷ 0x33 ∷ 0x04 ∷ []; says = fact Segment.address unknown ∷ blank 0 22 }
-    ∷ record { part = Pt6302; bytes = 0x01 ∷ 0x02 ∷ 0x03 ∷ 0x1F ∷ 0x03 ∷ 0x41 ∷ 0x03 ∷ 0x42 ∷ 0x04 ∷ []; says = ram (Character.dcram 15) (known 0x41) ∷ ram (Character.dcram 0) (known 0x42) ∷ [] }
+    ∷ record { part = Pt6312; bytes = 0x01 ∷ 0x02 ∷ 0x03 ∷ 0xD5 ∷ 0x03 ∷ 0x11 ∷ 0x03 ∷ 0x22 ∷ 0x04 ∷ []; says = ends 0 9 ∷ fact (Segment.cell 0x15) (known 0x11) ∷ fact Segment.address (known 0) ∷ [] }
+    ∷ record { part = Pt6312; bytes = 0x01 ∷ 0x02 ∷ 0x03 ∷ 0xD6 ∷ 0x03 ∷ 0x33 ∷ 0x04 ∷ []; says = ends 0 7 ∷ blank 0 22 }
+    ∷ record { part = Pt6315; bytes = 0x01 ∷ 0x02 ∷ 0x03 ∷ 0xE3 ∷ 0x03 ∷ 0x7F ∷ 0x04 ∷ []; says = ends 0 7 ∷ fact (Segment.cell 0x23) (known 0x7F) ∷ [] }
+    ∷ record { part = Pt6315; bytes = 0x01 ∷ 0x02 ∷ 0x03 ∷ 0xE4 ∷ 0x03 ∷ 0x7F ∷ 0x04 ∷ []; says = ends 0 7 ∷ blank 0 36 }
+    ∷ record { part = Pt6312; bytes = 0x01 ∷ 0x02 ∷ 0x03 ∷ 0x44 ∷ 0x04 ∷ 0x02 ∷ 0x03 ∷ 0xC3 ∷ 0x03 ∷ 0xAA ∷ 0x03 ∷ 0xBB ∷ 0x04 ∷ []; says = ends 0 13 ∷ fact (Segment.cell 0x03) (known 0xBB) ∷ fact Segment.address (known 4) ∷ [] }
+    ∷ record { part = Pt6312; bytes = 0x01 ∷ 0x02 ∷ 0x03 ∷ 0x41 ∷ 0x03 ∷ 0x0E ∷ 0x04 ∷ []; says = ends 0 7 ∷ fact Segment.led (known 14) ∷ [] }
+    ∷ record { part = Pt6315; bytes = 0x01 ∷ 0x02 ∷ 0x03 ∷ 0x88 ∷ 0x04 ∷ []; says = ends 0 5 ∷ settings 8 1 }
+    ∷ record { part = Pt6315; bytes = 0x01 ∷ 0x02 ∷ 0x03 ∷ 0x88 ∷ 0x04 ∷ 0x02 ∷ 0x03 ∷ 0x0F ∷ 0x04 ∷ []; says = ends 0 9 ∷ settings 8 1 }
+    ∷ record { part = Pt6315; bytes = 0x01 ∷ 0x02 ∷ 0x03 ∷ 0x88 ∷ 0x04 ∷ 0x02 ∷ 0x03 ∷ 0x00 ∷ 0x04 ∷ []; says = ends 0 9 ∷ settings 0 0 }
+    ∷ record { part = Pt6312; bytes = 0x05 ∷ 0x02 ∷ 0x03 ∷ 0xC5 ∷ 0x03 ∷ 0x33 ∷ 0x04 ∷ []; says = ends 0 7 ∷ fact Segment.address unknown ∷ blank 0 22 }
+    ∷ record { part = Pt6302; bytes = 0x01 ∷ 0x02 ∷ 0x03 ∷ 0x1F ∷ 0x03 ∷ 0x41 ∷ 0x03 ∷ 0x42 ∷ 0x04 ∷ []; says = ends 0 9 ∷ ram (Character.dcram 15) (known 0x41) ∷ ram (Character.dcram 0) (known 0x42) ∷ [] }
     ∷ record { part = Pt6312; bytes = 0x02 ∷ 0x03 ∷ 0xC0 ∷ 0x06 ∷ 0x03 ∷ []; says = ends 0 5 ∷ blank 0 22 }
     ∷ record { part = Pt6312; bytes = 0x02 ∷ 0x03 ∷ 0xC0 ∷ 0x06 ∷ 0x08 ∷ []; says = ends 8 3 ∷ [] }
-    ∷ record { part = Pt6312; bytes = 0x07 ∷ 0x12 ∷ 0x34 ∷ 0x05 ∷ 0x00 ∷ 0x02 ∷ 0x03 ∷ 0x42 ∷ []; says = sends (known 0x12) ∷ [] }
-    ∷ record { part = Pt6312; bytes = 0x07 ∷ 0x12 ∷ 0x34 ∷ 0x05 ∷ 0x00 ∷ 0x02 ∷ 0x03 ∷ 0x42 ∷ 0x09 ∷ []; says = sends (known 0x34) ∷ [] }
-    ∷ record { part = Pt6312; bytes = 0x07 ∷ 0x12 ∷ 0x34 ∷ 0x05 ∷ 0x00 ∷ 0x02 ∷ 0x03 ∷ 0x42 ∷ 0x09 ∷ 0x09 ∷ 0x09 ∷ []; says = sends (known notDriven) ∷ [] }
+    ∷ record { part = Pt6312; bytes = 0x07 ∷ 0x12 ∷ 0x34 ∷ 0x05 ∷ 0x00 ∷ 0x02 ∷ 0x03 ∷ 0x42 ∷ []; says = ends 0 8 ∷ sends (known 0x12) ∷ [] }
+    ∷ record { part = Pt6312; bytes = 0x07 ∷ 0x12 ∷ 0x34 ∷ 0x05 ∷ 0x00 ∷ 0x02 ∷ 0x03 ∷ 0x42 ∷ 0x09 ∷ []; says = ends 0 9 ∷ sends (known 0x34) ∷ [] }
+    ∷ record { part = Pt6312; bytes = 0x07 ∷ 0x12 ∷ 0x34 ∷ 0x05 ∷ 0x00 ∷ 0x02 ∷ 0x03 ∷ 0x42 ∷ 0x09 ∷ 0x09 ∷ 0x09 ∷ []; says = ends 0 11 ∷ sends (known notDriven) ∷ [] }
     ∷ []
 
 pub holds : AllRows table

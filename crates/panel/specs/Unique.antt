@@ -89,7 +89,7 @@ Small (R.Is Unknown) = Unit
 Small (R.NoPart at) = Unit
 Small (R.OutOfRange at) = Unit
 
-same-sending : (a b : Sending) → Small (R.Is a) → Small (R.Is b) → sending a ≡ sending b → a ≡ b
+pub same-sending : (a b : Sending) → Small (R.Is a) → Small (R.Is b) → sending a ≡ sending b → a ≡ b
 same-sending (Byte x) (Byte y) h g e = ap Byte (known-one x y e)
 same-sending (Byte x) NotDriven h g e =
     let z = known-one x 256 e in

@@ -71,11 +71,12 @@ ofSwitches v = whether (ltb v 16) (Is (Switches v) 2) (Refused Forbidden)
 abbrev pub ofKeys : Part → ℕ → ℕ → ℕ → ℕ → Read
 ofKeys p k0 k1 k2 k3 = whether (fourthAllowed p k3) (Is (Keys k0 k1 k2 k3) 5) (Refused Forbidden)
 
--- Each record is tested by 5, 6, 7, 8, in that order: kind not listed, kind not of this part, body cut short, body value not allowed.
+-- 8: a body value that is not allowed.
 abbrev pub ofBody : Part → ℕ → List ℕ → Read
 ofBody p kind l =
     whether (allowed p kind (getD l 1 0) (getD l 4 0)) (Is (eventOf kind (getD l 1 0) (getD l 2 0) (getD l 3 0) (getD l 4 0)) (suc (bodyOf kind))) (Refused Forbidden)
 
+-- Each record is tested by 5, 6, 7, 8, in that order: kind not listed, kind not of this part, body cut short, body value not allowed.
 abbrev pub ofKind : Part → ℕ → List ℕ → Read
 ofKind p kind l =
     whether (listed kind)

@@ -39,10 +39,11 @@ impl Reader {
 
     // A line that is not a remark is run.
     fn line(self, recording: &mut [u8]) -> Reader {
-        if self.word != b'#' {
-            let read = self.ended(recording);
-            read.example.show(recording);
+        if self.word == b'#' {
+            return Reader::new();
         }
+        let read = self.ended(recording);
+        read.example.show(recording);
         Reader::new()
     }
 

@@ -109,8 +109,3 @@ module _ (es : List Event) (k : Fact → Standing) (carried : Each Bytes es) (so
   character-facts =
       exact-at-end same? range two move Bytes ranged Steers Plain clear es k carried sound settled
       (takes-throughout same? range two move Bytes ranged Plain (λ e l d h. plain-less (at-position First) (λ b. Defined (commandOf b)) e (l position) (d position) (h position)) es k c carried sound good fits usual)
-
-  -- So is each cell of the three memories.
-  pub character-cells : (i : ℕ)
-      → ExactAtEnd same? range (map move es) k (dcram i) × ExactAtEnd same? range (map move es) k (cgram i) × ExactAtEnd same? range (map move es) k (adram i)
-  character-cells i = (character-facts (dcram i), character-facts (cgram i), character-facts (adram i))

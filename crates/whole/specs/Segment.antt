@@ -130,7 +130,3 @@ module _ (p : Family) (es : List Event) (k : Fact → Standing) (carried : Each 
       carried sound settled
       (takes-throughout same? (range (sizes p)) (two p) (move (sizes p)) Bytes (ranged (sizes p) (proper p)) (Plain (sizes p))
       (λ e l d h. plain-less (at-position First) (λ b. Defined (commandOf (sizes p) b)) e (l position) (d position) (h position)) es k c carried sound good fits usual)
-
-  -- So is a memory cell.
-  pub segment-cells : (i : ℕ) → ExactAtEnd same? (range (sizes p)) (map (move (sizes p)) es) k (cell i)
-  segment-cells i = segment-facts (cell i)
