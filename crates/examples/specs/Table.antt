@@ -8,6 +8,7 @@ use mathlib.Core.List.{List, [], _∷_, map}
 use lib.ListN.{length}
 use lib.Dec.{eqb}
 use borrow.Author.Tests.{eqb-true}
+use Rattle.rules.specs.Choice.{both}
 use Rattle.knowing.specs.Standing.{Standing, known, unknown}
 use Rattle.knowing.specs.Know.{know, join, common, keptIf}
 use Rattle.knowing.specs.Turn.{inTurn}
@@ -101,10 +102,6 @@ test [] = true
 test (r ∷ rs) = rightAll (r .part) (r .bytes) (r .says) && test rs
 
 -- The law that turns the test into the statement.
-both : (a b : Bool) → (a && b) ≡ true → (a ≡ true) × (b ≡ true)
-both true b e = (refl, e)
-both false b e = absurd (true≢false (sym e))
-
 alike-same : (s t : Standing) → alike s t ≡ true → s ≡ t
 unfolding alike
 alike-same (known v) (known w) e = ap known (eqb-true v w e)

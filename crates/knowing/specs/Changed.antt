@@ -1,9 +1,9 @@
 -- One fact of several: what is known of it after it is set or learnt, and of the others.
-use Prim.Native.Nat.{ℕ}
-use mathlib.Core.Path.{_≡_, refl}
+use Prim.Native.Nat.{ℕ, _<_}
+use mathlib.Core.Path.{_≡_, refl, subst⁻¹}
 use Rattle.rules.specs.Rule.{Form, value}
 use Rattle.rules.specs.Change.{change}
-use Rattle.knowing.specs.Standing.{Standing, known}
+use Rattle.knowing.specs.Standing.{Standing, known, Within, Sound}
 use Rattle.knowing.specs.Know.{lifted, learn}
 
 module _ {F : Type 0} (same? : Discrete F) (l : F → Standing) (g : F) (v : ℕ) where
@@ -34,3 +34,11 @@ module _ {F : Type 0} (same? : Discrete F) (l : F → Standing) (g : F) (v : ℕ
       go : (d : Dec (f ≡ g)) → _≡_ {A = Standing} (elim d [ yes _ ↦ known v | no _ ↦ l f ]) (l f)
       go (yes p) = absurd (n p)
       go (no _) = refl
+
+  -- What is learnt within its range keeps a knowledge in range.
+  pub learn-sound : (range : F → ℕ) → v < range g → Sound range l → Sound range (learn same? g v l)
+  learn-sound range h s f = go (same? f g)
+    where
+      go : (d : Dec (f ≡ g)) → Within (range f) (elim d [ yes _ ↦ known v | no _ ↦ l f ])
+      go (yes p) = subst⁻¹ (λ (x : F). v < range x) p h
+      go (no p) = s f

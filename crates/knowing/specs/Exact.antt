@@ -1,15 +1,16 @@
 -- What `know` says is exact. The argument, by induction on the rule. At a form, the fitting chip that has 0 wherever nothing is known, and the
 -- one that has 1 there, show that "unknown" is deserved. At a look at a known fact, every fitting chip goes the one way. At a look at an
 -- unknown fact, the fitting chips are those that fit the knowledge with one of its values learnt, for each value.
-use Prim.Native.Nat.{ℕ, _<_, _≤_}
+use Prim.Native.Nat.{ℕ, _≤_}
 use native.Mathlib.Omega.{arith}
 use mathlib.Core.Path.{_≡_, refl, sym, ap, _∙_, subst, subst⁻¹}
 use Rattle.rules.specs.Rule.{Form, value, copy, free, Rule, gives, look, outcome, run}
 use Rattle.rules.specs.Range.{Good}
 use Rattle.rules.specs.Turn.{Allows}
-use Rattle.knowing.specs.Standing.{Standing, known, unknown, Agrees, Fits, Within, Sound, Exact}
+use Rattle.knowing.specs.Standing.{Standing, known, unknown, Agrees, Fits, Sound, Exact}
 use Rattle.knowing.specs.Know.{lifted, learn, common, know}
 use Rattle.knowing.specs.Join.{not-known, known-one, common-all, common-each}
+use Rattle.knowing.specs.Changed.{learn-sound}
 use Rattle.knowing.specs.Fill.{fill, filled, filled-fits, filled-good}
 
 module _ {F : Type 0} (same? : Discrete F) (range : F → ℕ) (two : (f : F) → 2 ≤ range f) where
@@ -77,13 +78,6 @@ module _ {F : Type 0} (same? : Discrete F) (range : F → ℕ) (two : (f : F) �
       go (yes p) a = subst⁻¹ (λ (s : Standing). Agrees s (c f)) (ap k p ∙ e) tt
       go (no p) a = a
 
-  learn-sound : (g : F) (w : ℕ) (k : F → Standing) → w < range g → Sound range k → Sound range (learn same? g w k)
-  learn-sound g w k l s f = go (same? f g)
-    where
-      go : (d : Dec (f ≡ g)) → Within (range f) (elim d [ yes _ ↦ known w | no _ ↦ k f ])
-      go (yes p) = subst⁻¹ (λ (h : F). w < range h) p l
-      go (no p) = s f
-
   module _ {R : Type 0} (answers : R → ℕ) (twice : (r : R) → 2 ≤ answers r) where
     -- A look, at a fact that is known, and at one that is not.
     look-exact : (g : F) (κ : ℕ → Rule F R) (k : F → Standing) (r : R) → Sound range k
@@ -100,11 +94,11 @@ module _ {F : Type 0} (same? : Discrete F) (range : F → ℕ) (two : (f : F) �
     )
     look-exact g κ k r s ih unknown p v = (
       λ e c good h w a.
-          ih (c g) (learn same? g (c g) k) (learn-sound g (c g) k (good g) s) v .0
+          ih (c g) (learn same? g (c g) k) (learn-sound same? k g (c g) range (good g) s) v .0
           (common-each (range g) (λ y. know same? range (κ y) (learn same? g y k) r) v e (c g) (good g))
           c good (learn-fits g (c g) k c refl h) w a,
       λ all. common-all (range g) (λ y. know same? range (κ y) (learn same? g y k) r) v (let t = two g in omega arith) (λ u l.
-          ih u (learn same? g u k) (learn-sound g u k l s) v .1 (λ c good h w a.
+          ih u (learn same? g u k) (learn-sound same? k g u range l s) v .1 (λ c good h w a.
           all c good (learnt-fits g u k c p h) w (subst⁻¹ (λ (y : ℕ). Allows (answers r) (run (κ y) c r) w) (learnt-value g u k c h) a))),
     )
 

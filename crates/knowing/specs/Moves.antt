@@ -14,17 +14,17 @@ use Rattle.knowing.specs.Exact.{know-exact, know-fits}
 abbrev pub AllHave : {F : Type 0} → (F → ℕ) → Rule F F → (F → Standing) → F → ℕ → Type 0
 AllHave {F} range rule k f v = (c : F → ℕ) → Good range c → Fits k c → (x : F → ℕ) → Result range rule c x → x f ≡ v
 
+-- Some value that a move allows.
+pub some : Outcome → ℕ
+some (becomes v) = v
+some anything = 0
+
+pub allowed : (n : ℕ) (o : Outcome) → 2 ≤ n → Allows n o (some o)
+unfolding some
+allowed n (becomes v) h = refl
+allowed n anything h = omega arith
+
 module _ {F : Type 0} (same? : Discrete F) (range : F → ℕ) (two : (f : F) → 2 ≤ range f) where
-  -- Some value that a move allows.
-  some : Outcome → ℕ
-  some (becomes v) = v
-  some anything = 0
-
-  allowed : (n : ℕ) (o : Outcome) → 2 ≤ n → Allows n o (some o)
-  unfolding some
-  allowed n (becomes v) h = refl
-  allowed n anything h = omega arith
-
   -- A result that has a value which the move allows at f.
   with-value : (rule : Rule F F) (c : F → ℕ) (f : F) (w : ℕ) → Allows (range f) (run rule c f) w → Result range rule c (put same? f w (λ g. some (run rule c g)))
   with-value rule c f w a g = go (same? g f)

@@ -2,12 +2,13 @@
 -- or unknown, and so is what several ways in range have in common.
 use Prim.Native.Nat.{ℕ, _<_, _≤_}
 use native.Mathlib.Omega.{arith}
-use mathlib.Core.Path.{_≡_, refl, subst⁻¹, subst}
+use mathlib.Core.Path.{_≡_, refl, subst}
 use Rattle.rules.specs.Rule.{Form, value, copy, free, Rule, gives, look}
 use Rattle.rules.specs.Range.{FormIn, Ranged}
 use Rattle.knowing.specs.Standing.{Standing, known, unknown, Within, Sound}
 use Rattle.knowing.specs.Know.{lifted, learn, common, know}
 use Rattle.knowing.specs.Join.{common-each}
+use Rattle.knowing.specs.Changed.{learn-sound}
 
 wider : (m n : ℕ) (s : Standing) → m ≤ n → Within m s → Within n s
 wider m n (known v) h w = omega arith
@@ -26,17 +27,10 @@ module _ {F R : Type 0} (same? : Discrete F) (range : F → ℕ) (some : (f : F)
   form-within k n (copy g) s h = wider (range g) n (k g) h (s g)
   form-within k n free s h = tt
 
-  learn-within : (g : F) (w : ℕ) (k : F → Standing) → w < range g → Sound range k → Sound range (learn same? g w k)
-  learn-within g w k l s f = go (same? f g)
-    where
-      go : (d : Dec (f ≡ g)) → Within (range f) (elim d [ yes _ ↦ known w | no _ ↦ k f ])
-      go (yes p) = subst⁻¹ (λ (h : F). w < range h) p l
-      go (no p) = s f
-
   pub know-sound : (rule : Rule F R) (k : F → Standing) → Ranged range answers rule → Sound range k → (r : R) → Within (answers r) (know same? range rule k r)
   know-sound (gives φ) k h s r = form-within k (answers r) (φ r) s (h r)
   know-sound (look g κ) k h s r =
-      go (k g) (s g) (λ v l. know-sound (κ v) k (h v l) s r) (λ w l. know-sound (κ w) (learn same? g w k) (h w l) (learn-within g w k l s) r)
+      go (k g) (s g) (λ v l. know-sound (κ v) k (h v l) s r) (λ w l. know-sound (κ w) (learn same? g w k) (h w l) (learn-sound same? k g w range l s) r)
     where
       go : (t : Standing) → Within (range g) t → ((v : ℕ) → v < range g → Within (answers r) (know same? range (κ v) k r))
           → ((w : ℕ) → w < range g → Within (answers r) (know same? range (κ w) (learn same? g w k) r))

@@ -6,6 +6,7 @@ use Rattle.rules.specs.Rule.{Form, value, Rule, look}
 use Rattle.rules.specs.Change.{keep, change}
 use Rattle.knowing.specs.Standing.{Standing, known, unknown, Within, Sound}
 use Rattle.knowing.specs.Know.{lifted, learn, join, common, know}
+use Rattle.knowing.specs.Changed.{learn-sound}
 use Rattle.knowing.specs.Look.{look-known, look-unknown, know-same}
 
 module _ {F K : Type 0} (view : K → F → Standing) where
@@ -32,11 +33,7 @@ module _ {F K : Type 0} (view : K → F → Standing) where
 
     -- What is learnt is in range where it is learnt within it.
     pub learns-sound : (range : F → ℕ) (k r : K) (g : F) (v : ℕ) → Learns g v k r → v < range g → Sound range (view k) → Sound range (view r)
-    learns-sound range k r g v e h s f = subst⁻¹ (λ (t : Standing). Within (range f) t) (e f) (go (same? f g))
-      where
-        go : (d : Dec (f ≡ g)) → Within (range f) (elim d [ yes _ ↦ known v | no _ ↦ view k f ])
-        go (yes p) = subst⁻¹ (λ (x : F). v < range x) p h
-        go (no p) = s f
+    learns-sound range k r g v e h s f = subst⁻¹ (λ (t : Standing). Within (range f) t) (e f) (learn-sound same? (view k) g v range h s f)
 
 -- A is what is answered: the knowledge again for a move, or a report. `out` reads it as what it answers for.
 module _ {F R K A : Type 0} (view : K → F → Standing) (out : A → R → Standing) (same? : Discrete F) (range : F → ℕ) where

@@ -3,12 +3,13 @@ use Prim.Native.Nat.{ℕ, zero, suc, _+_, _<_}
 use native.Mathlib.Omega.{arith}
 use native.Mathlib.Numerals.{add-one}
 use mathlib.Core.Path.{_≡_, refl, sym, ap, _∙_}
-use mathlib.Core.Bool.{Bool, true, false, _&&_}
+use mathlib.Core.Bool.{Bool, true, _&&_}
 use mathlib.Core.List.{List, [], _∷_}
 use lib.ListN.{length, getD, drop}
 use lib.Seq.{drop-cons}
 use lib.Dec.{ltb}
 use borrow.Author.Tests.{ltb-true, lt-ltb}
+use Rattle.rules.specs.Choice.{both}
 use Rattle.segment.specs.declared.chip.Sizes.{Sizes}
 use Rattle.segment.specs.Fact as Segment
 use Rattle.character.specs.Fact as Character
@@ -35,15 +36,6 @@ characterFits p =
     && (ltb (p .port) (Character.range Character.port)
     && (ltb (p .duty) (Character.range Character.duty)
     && ltb (p .digits) (Character.range Character.digits))))
-
-both : (a b : Bool) → (a && b) ≡ true → (a ≡ true) × (b ≡ true)
-both true b e = (refl, e)
-both false b e = (e, absurd (no-truth e))
-  where
-    no-truth : false ≡ true → ⊥
-    no-truth q =
-        let z : _≡_ {A = ℕ} 0 1 = cc in
-        omega arith
 
 and : (a b : Bool) → a ≡ true → b ≡ true → (a && b) ≡ true
 and a b p q = rw (p, q)

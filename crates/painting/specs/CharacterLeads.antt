@@ -5,7 +5,7 @@ use Prim.Native.Nat.{ℕ, suc, _+_, _*_, _/_, _%_, _<_}
 use native.Mathlib.Omega.{arith}
 use native.Mathlib.Numerals.{add-one}
 use mathlib.Core.Path.{_≡_, refl, sym, ap, _∙_, subst⁻¹}
-use mathlib.Core.Bool.{Bool, true, false}
+use mathlib.Core.Bool.{Bool, true, false, true≢false}
 use mathlib.Core.List.{List, [], _∷_, _++_, map, map-map}
 use lib.ListN.{length, getD}
 use lib.Dec.{ltb, eqb}
@@ -14,7 +14,7 @@ use Rattle.rules.specs.Rule.{Rule, gives, look, becomes, run}
 use Rattle.rules.specs.Change.{keep}
 use Rattle.rules.specs.Laws.{says-by-value}
 use Rattle.rules.specs.Turn.{Surely, Leads, leads-append, surely-to, put, put-same, put-other, put-kept, change-put}
-use Rattle.rules.specs.Walk.{Walked, Next, Row, walk-row, row-ends, true-false}
+use Rattle.rules.specs.Walk.{Walked, Next, Row, walk-row, row-ends}
 use Rattle.terms.specs.declared.Event.{Event}
 use Rattle.terms.specs.declared.Event.the-variants.{Falls, ByteIn, Rises}
 use Rattle.terms.specs.Event.{strobe}
@@ -26,7 +26,7 @@ use Rattle.character.specs.Fact.{Fact, same?, dcram, cgram, adram, dcramAt, cgr
 use Rattle.character.specs.Value.{lit}
 use Rattle.character.specs.Command.{commandOf}
 use Rattle.character.specs.Move.{sets, commanded, drawn, byteIn, move}
-use Rattle.character.specs.Laws.{every}
+use Rattle.character.specs.Laws.{every, dcram-apart, cgram-apart, adram-apart}
 use Rattle.painting.specs.declared.CharacterPicture.{CharacterPicture}
 use Rattle.painting.specs.Character.{Within, painting, painted}
 
@@ -130,7 +130,7 @@ round-row ram to touched store q base reads apart other touches touches-to free 
   apart = apart;
   touches = touches;
   counted = λ k c. put-same same? to (k % 16) c;
-  spares = λ k c f h. put-other same? to f (k % 16) c (λ p. true-false (sym touches-to ∙ ap touched (sym p) ∙ h));
+  spares = λ k c f h. put-other same? to f (k % 16) c (λ p. true≢false (sym touches-to ∙ ap touched (sym p) ∙ h));
   spares-row = λ k c j. put-other same? to (ram j) (k % 16) c (other j);
   stores = λ i b c h p f. says-by-value (byteIn b) c f _ (c position) q (p .rest position free ∙ e)
       (subst⁻¹ (λ (r : Rule Fact Fact). run r c f ≡ becomes (count-to to (suc i) (put′ (ram i) (store b) c) f)) (reads b)
@@ -178,18 +178,6 @@ in-cgram duty = false
 in-cgram digits = false
 in-cgram lights = false
 in-cgram position = false
-
-not-true : false ≡ true → ⊥
-not-true e = true-false (sym e)
-
-dcram-apart : (i j : ℕ) → dcram i ≡ dcram j → i ≡ j
-dcram-apart i j e = cc
-
-adram-apart : (i j : ℕ) → adram i ≡ adram j → i ≡ j
-adram-apart i j e = cc
-
-cgram-apart : (i j : ℕ) → cgram i ≡ cgram j → i ≡ j
-cgram-apart i j e = cc
 
 dcram-row : (base : Chip) → base position ≡ 2 → Row same? dcram (λ v. move (ByteIn v)) (λ v. v) 16 in-dcram (count-to dcramAt) (Counts-to dcramAt) base
 dcram-row base q = round-row dcram dcramAt in-dcram (λ v. v) 2 base (λ b. refl) dcram-apart (λ i e. no-cell i e) (λ i. refl) refl refl q
@@ -257,7 +245,7 @@ cgram-row base q = record {
   apart = cgram-apart;
   touches = λ i. refl;
   counted = λ k c. (refl, refl);
-  spares = λ k c. every _ (λ j e. refl) (λ j e. refl) (λ j e. refl) (λ e. refl) (λ e. absurd (true-false e)) (λ e. refl) (λ e. absurd (true-false e))
+  spares = λ k c. every _ (λ j e. refl) (λ j e. refl) (λ j e. refl) (λ e. refl) (λ e. absurd (true≢false e)) (λ e. refl) (λ e. absurd (true≢false e))
       (λ e. refl) (λ e. refl) (λ e. refl) (λ e. refl) (λ e. refl);
   spares-row = λ k c j. refl;
   stores = λ i b c h p. column-moves i b c h (p .rest position refl ∙ q) (p .counts);

@@ -5,7 +5,7 @@ use Prim.Native.Nat.{ℕ, suc, _+_, _*_, _/_, _%_, _<_, _≤_, min}
 use native.Mathlib.Omega.{arith}
 use native.Mathlib.Numerals.{add-one}
 use mathlib.Core.Path.{_≡_, refl, sym, ap, _∙_, subst⁻¹}
-use mathlib.Core.Bool.{Bool, true, false}
+use mathlib.Core.Bool.{Bool, true, false, true≢false}
 use mathlib.Core.List.{List, [], _∷_, _++_, map, map-map}
 use lib.ListN.{length, getD, take}
 use lib.Seq.{getD-take, length-take-le}
@@ -16,7 +16,7 @@ use Rattle.rules.specs.Rule.{Rule, gives, becomes, run}
 use Rattle.rules.specs.Change.{keep}
 use Rattle.rules.specs.Laws.{says-by-value}
 use Rattle.rules.specs.Turn.{Surely, Leads, leads-append, surely-to, put, change-put}
-use Rattle.rules.specs.Walk.{Walked, Next, Row, walk-row, row-ends, true-false}
+use Rattle.rules.specs.Walk.{Walked, Next, Row, walk-row, row-ends}
 use Rattle.terms.specs.declared.Event.{Event}
 use Rattle.terms.specs.declared.Event.the-variants.{Falls, ByteIn, Rises}
 use Rattle.terms.specs.Event.{strobe}
@@ -36,7 +36,7 @@ use Rattle.segment.specs.Fact.{Fact, same?, cell, address, dataMode, stepping, 
 use Rattle.segment.specs.Value.{pointer, shows}
 use Rattle.segment.specs.Command.{commandOf}
 use Rattle.segment.specs.Move.{sets, then, toMode, commanded, after, storedAt, stored, written, byteIn, move}
-use Rattle.segment.specs.Laws.{every}
+use Rattle.segment.specs.Laws.{every, cells-apart}
 use Rattle.painting.specs.declared.SegmentPicture.{SegmentPicture}
 use Rattle.painting.specs.Segment.{Within, control, painting, painted}
 
@@ -149,9 +149,6 @@ walked switches = false
 walked readCount = false
 walked position = false
 
-cells-apart : (i j : ℕ) → cell i ≡ cell j → i ≡ j
-cells-apart i j e = cc
-
 module _ (s : Sizes) where
   -- The address of cell i, or invalid behind the last.
   abbrev to-cell : ℕ → ℕ
@@ -183,7 +180,7 @@ module _ (s : Sizes) where
     apart = cells-apart;
     touches = λ i. refl;
     counted = λ k c. refl;
-    spares = λ k c. every _ (λ j e. refl) (λ e. absurd (true-false e)) (λ e. refl) (λ e. refl) (λ e. refl) (λ e. refl) (λ e. refl) (λ e. refl) (λ j e. refl) (λ e. refl) (λ e. refl) (λ e. refl);
+    spares = λ k c. every _ (λ j e. refl) (λ e. absurd (true≢false e)) (λ e. refl) (λ e. refl) (λ e. refl) (λ e. refl) (λ e. refl) (λ e. refl) (λ j e. refl) (λ e. refl) (λ e. refl) (λ e. refl);
     spares-row = λ k c j. refl;
     stores = λ i b c h p. cell-moves i b c h (p .rest position refl ∙ q) (p .rest dataMode refl ∙ d) (p .rest stepping refl ∙ n) (p .counts);
   }

@@ -4,7 +4,7 @@
 use Prim.Native.Nat.{ℕ}
 use native.Mathlib.Omega.{arith}
 use mathlib.Core.Path.{_≡_, refl, sym, ap, _∙_, fun-ext, subst⁻¹}
-use mathlib.Core.Bool.{Bool, true, false}
+use mathlib.Core.Bool.{Bool, true, false, true≢false}
 use mathlib.Core.List.{List, [], _∷_}
 use Rattle.rules.specs.Choice.{whether}
 use Rattle.rules.specs.Rule.{Form, value, copy, free, Rule, gives, look, becomes, outcome, run}
@@ -12,7 +12,6 @@ use Rattle.rules.specs.Change.{change}
 use Rattle.rules.specs.Laws.{says-by-value}
 use Rattle.rules.specs.Touch.{isFree, AllSettle, change-settles}
 use Rattle.rules.specs.Turn.{Surely, surely-ends, surely-only}
-use Rattle.rules.specs.Walk.{true-false}
 use Rattle.knowing.specs.Standing.{Standing, known, unknown}
 use Rattle.knowing.specs.Know.{lifted, know}
 use Rattle.knowing.specs.Look.{look-known}
@@ -66,7 +65,7 @@ module _ {F : Type 0} (same? : Discrete F) (range : F → ℕ) where
   form-fills : (d : ℕ) (k : F → Standing) (x : Form F) → isFree x ≡ false → outcome (filled d k) x ≡ becomes (fill d (lifted k x))
   form-fills d k (value v) h = refl
   form-fills d k (copy g) h = refl
-  form-fills d k free h = absurd (true-false h)
+  form-fills d k free h = absurd (true≢false h)
 
   -- Forms that leave nothing as anything.
   pub comes : (φ : F → Form F) (k : F → Standing) (I : (F → Standing) → Type 0) → AllSettle same? φ → I (know same? range (gives φ) k) → Comes (gives φ) k I

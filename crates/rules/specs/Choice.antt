@@ -1,7 +1,7 @@
 -- Choosing by a test, by a bit and by a small number: the words in which rules and commands go by cases.
 use Prim.Native.Nat.{ℕ, zero, suc, _/_, _%_, _^_}
-use mathlib.Core.Bool.{Bool, true, false}
-use mathlib.Core.Path.{_≡_, refl}
+use mathlib.Core.Bool.{Bool, true, false, _&&_, true≢false}
+use mathlib.Core.Path.{_≡_, refl, sym}
 use lib.Dec.{eqb}
 
 -- x where the test holds, y where it doesn't
@@ -58,3 +58,8 @@ of5-all P a b c d e p q r s t (suc n) = of4-all P b c d e q r s t n
 pub of6-all : {A : Type 0} (P : A → Type 0) (a b c d e f : A) → P a → P b → P c → P d → P e → P f → (n : ℕ) → P (of6 a b c d e f n)
 of6-all P a b c d e f p q r s t u zero = p
 of6-all P a b c d e f p q r s t u (suc n) = of5-all P b c d e f q r s t u n
+
+-- Two tests that hold together hold each.
+pub both : (a b : Bool) → (a && b) ≡ true → (a ≡ true) × (b ≡ true)
+both true b e = (refl, e)
+both false b e = absurd (true≢false (sym e))

@@ -4,7 +4,7 @@ use Prim.Native.Nat.{ℕ, suc, _+_, _-_, _<_, _≤_}
 use native.Mathlib.Omega.{arith}
 use native.Mathlib.Decide.{ℕ-discrete}
 use mathlib.Core.Path.{_≡_, refl, sym, ap, _∙_, subst}
-use mathlib.Core.Bool.{Bool, true, false}
+use mathlib.Core.Bool.{Bool, true, false, true≢false}
 use mathlib.Core.List.{List, [], _∷_, map}
 use lib.ListN.{length, getD}
 use lib.Dec.{ltb}
@@ -78,11 +78,6 @@ pub record Next {F : Type 0} (touched : F → Bool) (Counts : ℕ → (F → ℕ
   pub counts : Counts i c
   pub rest : (f : F) → touched f ≡ false → c f ≡ base f
 
-pub true-false : true ≡ false → ⊥
-true-false e =
-    let z : _≡_ {A = ℕ} 0 1 = cc in
-    omega arith
-
 -- A row of bytes: each is stored at its number, and the counters step on.
 pub record Row {F : Type 0} (same? : Discrete F) (numbered : ℕ → F) (rule : ℕ → Rule F F) (store : ℕ → ℕ) (n : ℕ) (touched : F → Bool)
     (counters : ℕ → (F → ℕ) → F → ℕ) (Counts : ℕ → (F → ℕ) → Type 0) (base : F → ℕ) : Type 0 where
@@ -98,7 +93,7 @@ module _ {F : Type 0} (same? : Discrete F) (numbered : ℕ → F) (rule : ℕ �
     (counters : ℕ → (F → ℕ) → F → ℕ) (Counts : ℕ → (F → ℕ) → Type 0) (base : F → ℕ)
     (row : Row same? numbered rule store n touched counters Counts base) where
   spared : (i v : ℕ) (c : F → ℕ) (f : F) → touched f ≡ false → put same? (numbered i) v c f ≡ c f
-  spared i v c f e = put-other same? (numbered i) f v c (λ p. true-false (sym (row .touches i) ∙ ap touched (sym p) ∙ e))
+  spared i v c f e = put-other same? (numbered i) f v c (λ p. true≢false (sym (row .touches i) ∙ ap touched (sym p) ∙ e))
 
   row-step : (i b : ℕ) (c : F → ℕ) → i < n → Next touched Counts base i c → Step numbered (rule b) (store b) (Next touched Counts base) i c
   row-step i b c h p = record {

@@ -1,15 +1,13 @@
 -- Events as a chip takes them. A byte is a command only where the chip's position is first byte; so what a recording asks of a chip goes along its moves.
 -- Where the position is known, what holds along one fitting chip holds along the knowledge.
 use Prim.Native.Nat.{ℕ, _≤_}
-use native.Mathlib.Omega.{arith}
-use mathlib.Core.Path.{refl}
 use mathlib.Core.List.{List, [], _∷_}
-use Rattle.rules.specs.Rule.{Rule, Outcome, becomes, anything, run}
+use Rattle.rules.specs.Rule.{Rule, run}
 use Rattle.rules.specs.Range.{Good, Ranged}
-use Rattle.rules.specs.Turn.{Allows, Result}
+use Rattle.rules.specs.Turn.{Result}
 use Rattle.knowing.specs.Standing.{Standing, known, Fits, Sound}
 use Rattle.knowing.specs.Know.{know}
-use Rattle.knowing.specs.Moves.{still-fits}
+use Rattle.knowing.specs.Moves.{some, allowed, still-fits}
 use Rattle.whole.specs.Usual.{Each, Throughout}
 use Rattle.whole.specs.Whole.{knowing-sound, result-good}
 
@@ -21,16 +19,6 @@ seen c f = known (c f)
 abbrev pub Takes : {E F : Type 0} → (F → ℕ) → (E → Rule F F) → (E → (F → Standing) → Type 0) → List E → (F → ℕ) → Type 0
 Takes range move P [] c = Unit
 Takes {E} {F} range move P (e ∷ es) c = P e (seen c) × ((y : F → ℕ) → Result range (move e) c y → Takes range move P es y)
-
--- Some value that a move allows.
-some : Outcome → ℕ
-some (becomes v) = v
-some anything = 0
-
-allowed : (n : ℕ) (o : Outcome) → 2 ≤ n → Allows n o (some o)
-unfolding some
-allowed n (becomes v) h = refl
-allowed n anything h = omega arith
 
 module _ {E F : Type 0} (same? : Discrete F) (range : F → ℕ) (two : (f : F) → 2 ≤ range f) (move : E → Rule F F) (Carries : E → Type 0)
     (ranged : (e : E) → Carries e → Ranged range range (move e)) (P : E → (F → Standing) → Type 0) (lower : (e : E) (k : F → Standing) (c : F → ℕ) → Fits k c → P e (seen c) → P e k) where
