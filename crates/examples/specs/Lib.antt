@@ -1,3 +1,4 @@
-pub mod Painting
-pub mod Knowing
+pub mod Row
+pub mod Test
 pub mod Table
+pub mod AnyKnowledge
