@@ -20,7 +20,7 @@ use Rattle.terms.specs.declared.PartRead.{PartRead}
 use Rattle.terms.specs.declared.PartRead.the-variants.{Is, Refused}
 use lib.Dec.{leb}
 use Rattle.rules.specs.Choice.{whether}
-use Rattle.painter.specs.Stream.{front}
+use Rattle.writing.specs.Sets.{front}
 
 -- The answer r and the output `now′` are those of a picture with the test t, the size n and that stream, on the output `out`.
 abbrev pub Answers : Bool → ℕ → List ℕ → List ℕ → Painted → List ℕ → Type 0

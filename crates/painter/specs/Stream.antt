@@ -1,24 +1,17 @@
 -- Laws of writing a stream: what is written piece by piece is the whole, and how long it is.
-use Prim.Native.Nat.{ℕ, suc, _+_, _*_, _<_, _≤_}
+use Prim.Native.Nat.{ℕ, suc, _+_, _*_, _<_}
 use native.Mathlib.Omega.{arith}
 use native.Mathlib.Numerals.{add-one}
 use mathlib.Core.Path.{_≡_, refl, sym, ap, _∙_}
 use mathlib.Core.List.{List, [], _∷_, _++_, map, append-assoc}
-use lib.ListN.{length, getD, take, drop, set, length-append}
-use lib.Seq.{sets, sets-eq, take-suc, length-take-le}
+use lib.ListN.{length, getD, take, set, length-append}
+use lib.Seq.{sets, take-suc, length-take-le}
+use Rattle.writing.specs.Sets.{sets-append}
 use Rattle.terms.specs.declared.Event.{Event}
 use Rattle.terms.specs.declared.Event.the-variants.{ByteIn, Rises}
 use Rattle.terms.specs.Event.{recording, recording-append, strobe}
 use Rattle.painting.specs.Segment.{fiveStrobes}
 use Rattle.painting.specs.Character.{threeRams}
-
-pub sets-append : (xs ys l : List ℕ) (i : ℕ) → sets l i (xs ++ ys) ≡ sets (sets l i xs) (i + length xs) ys
-sets-append [] ys l i =
-    let e : i + 0 ≡ i = omega arith in
-    rw e refl
-sets-append (x ∷ xs) ys l i =
-    let e : suc i + length xs ≡ i + suc (length xs) = omega arith in
-    sets-append xs ys (set l i x) (suc i) ∙ ap (λ (k : ℕ). sets (sets (set l i x) (suc i) xs) k ys) e
 
 pub bytes-length : (bs : List ℕ) → length (recording (map ByteIn bs)) ≡ 2 * length bs
 bytes-length [] = refl
@@ -90,12 +83,6 @@ strobe-then o₀ o₁ o₂ at a₁ b bs rest p e₁ e₂ =
     let n : length s ≡ 2 * length bs + 4 = strobe-length b bs in
     let q : a₁ ≡ at + length s = omega arith in
     e₂ ∙ ap (λ (x : List ℕ). sets x a₁ rest) e₁ ∙ ap (λ (k : ℕ). sets (sets o₀ at s) k rest) q ∙ sym (sets-append s rest o₀ at)
-
--- What is written from the front on stands there, and the rest is as it was.
-pub front : (vs out : List ℕ) → length vs ≤ length out → sets out 0 vs ≡ vs ++ drop (length vs) out
-front vs out h =
-    let z : 0 + length vs ≡ length vs = omega arith in
-    sets-eq vs out 0 (omega arith) ∙ rw z refl
 
 -- The five strobes of PT6312 and PT6315, written one behind the other, and their length.
 pub five-written : (o₀ o₁ o₂ o₃ o₄ o₅ : List ℕ) (a₁ a₂ a₃ a₄ m lamps k : ℕ) (cells : List ℕ)

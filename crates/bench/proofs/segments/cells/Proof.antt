@@ -1,0 +1,48 @@
+-- `bench::segments::cells` is safe: the cells that PT6312 has are as many as the part that is lent.
+-- Assumes nothing.
+use native.Mathlib.Omega.{arith}
+use lib.ListN.{length-take}
+use borrow.Author.Needs.{needs}
+use Rattle.bench.proofs.segments.cells.Statement.{statement}
+use Rattle.bench.proofs.segments.cells.Tie as tie
+
+enum-told : tie.Need-enum-told
+enum-told c = search needs
+
+array-share-prefix-cells : tie.Need-array-share-prefix-cells
+array-share-prefix-cells c = search needs
+
+slice-aggregate-codes : tie.Need-slice-aggregate-codes
+slice-aggregate-codes c = simp length-take (omega arith)
+
+codes-requires : tie.Need-codes-requires
+codes-requires c κs = search needs
+
+enum-told-2 : tie.Need-enum-told-2
+enum-told-2 c = search needs
+
+slice-aggregate-codes-2 : tie.Need-slice-aggregate-codes-2
+slice-aggregate-codes-2 c = search needs
+
+codes-requires-2 : tie.Need-codes-requires-2
+codes-requires-2 c κs = search needs
+
+returns : tie.Need-returns
+returns c = search needs
+
+returns-2 : tie.Need-returns-2
+returns-2 c = search needs
+
+pub cells-spec : {M : Type 1} → statement M
+cells-spec =
+    tie.close
+    (tie.spec
+    enum-told
+    array-share-prefix-cells
+    slice-aggregate-codes
+    codes-requires
+    enum-told-2
+    slice-aggregate-codes-2
+    codes-requires-2
+    returns
+    returns-2)

@@ -1,0 +1,80 @@
+// Replays one recording many times and prints a checksum of what was known at each end, for `tools/bench` to measure.
+//
+// Standard input is a count of rounds in two bytes, the low byte first, then what the mirror reads: the part byte and a recording. Each round replays
+// the recording from knowing nothing, and its answer and every fact that it ends with go into the checksum, so that no round can be left out.
+mod characters;
+mod segments;
+mod sum;
+
+use libc::STDIN_FILENO;
+use libc::STDOUT_FILENO;
+use panel::Panel;
+use replay::Answer;
+use segment::Family;
+use sum::Sum;
+use terms::Part;
+use terms::PartRead;
+use terms::Place;
+
+fn main() {
+    let mut buffer = [0u8; 65539];
+    let n = io::read_full(STDIN_FILENO, &mut buffer);
+    let rounds = count(buffer[0], buffer[1]);
+    let part = buffer[2];
+    let sum = if n < 3 {
+        summed(rounds, part, &buffer[..0])
+    } else {
+        summed(rounds, part, &buffer[3..n])
+    };
+    io::print_decimal(STDOUT_FILENO, sum.0 as u64);
+    io::write_all(STDOUT_FILENO, b"\n");
+}
+
+fn count(low: u8, high: u8) -> usize {
+    low as usize + high as usize * 256
+}
+
+fn summed(rounds: usize, part: u8, recording: &[u8]) -> Sum {
+    let mut sum = Sum(0);
+    let mut i = 0;
+    while i < rounds {
+        sum = round(sum, part, recording);
+        i += 1;
+    }
+    sum
+}
+
+fn round(sum: Sum, part: u8, recording: &[u8]) -> Sum {
+    let replayed = replay::replay(part, panel::nothing_known(), recording, Place(0));
+    let answer = replayed.answer;
+    let answered = answer_in(sum, answer);
+    let after = replayed.panel;
+    match terms::part_of(part) {
+        PartRead::Is(is) => panel_in(answered, is, after),
+        PartRead::Refused(_) => answered,
+    }
+}
+
+// Paper 01's number and the place.
+fn answer_in(sum: Sum, answer: Answer) -> Sum {
+    match answer {
+        Answer::Done(place) => sum.take(0).place(place),
+        Answer::NoPart(place) => sum.take(1).place(place),
+        Answer::OutOfRange(place) => sum.take(2).place(place),
+        Answer::BeyondEnd(place) => sum.take(3).place(place),
+        Answer::TooLong(place) => sum.take(4).place(place),
+        Answer::Unlisted(place) => sum.take(5).place(place),
+        Answer::Foreign(place) => sum.take(6).place(place),
+        Answer::CutShort(place) => sum.take(7).place(place),
+        Answer::Forbidden(place) => sum.take(8).place(place),
+    }
+}
+
+// The facts of the part, in paper 01's order.
+fn panel_in(sum: Sum, part: Part, panel: Panel) -> Sum {
+    match part {
+        Part::Pt6302 => characters::all(sum, panel.character),
+        Part::Pt6312 => segments::all(sum, Family::Pt6312, panel.segment),
+        Part::Pt6315 => segments::all(sum, Family::Pt6315, panel.segment),
+    }
+}

@@ -1,0 +1,6 @@
+pub mod Text
+pub mod Page
+pub mod Decimal
+pub mod Lines
+pub mod Lengths
+pub mod Laws

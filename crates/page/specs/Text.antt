@@ -1,0 +1,46 @@
+-- How the program writes numbers and lines (paper 01, the last paragraph of "Examples"). Text is a list of ASCII codes.
+use Prim.Native.Nat.{ℕ, zero, suc, _+_, _-_, _/_, _%_}
+use Prim.Native.Char.{code}
+use mathlib.Core.List.{List, [], _∷_, _++_}
+use lib.Dec.{ltb}
+use lib.ListN.{take, drop}
+use Rattle.rules.specs.Choice.{whether}
+
+-- "Every line ends in 0AH."
+abbrev pub newline : ℕ
+newline = 0x0A
+
+-- A digit: 0 to 9, then A to F, for "hex is upper case".
+abbrev pub digit : ℕ → ℕ
+digit n = whether (ltb n 10) (code "0" + n) (code "A" + (n - 10))
+
+-- Two hex digits.
+abbrev pub hex : ℕ → List ℕ
+hex byte = digit (byte / 16) ∷ digit (byte % 16) ∷ []
+
+-- A number in decimal, of at most k digits: those of a tenth of it, then the last.
+abbrev pub decimalIn : ℕ → ℕ → List ℕ
+decimalIn zero n = []
+decimalIn (suc k) n = whether (ltb n 10) (digit n ∷ []) (decimalIn k (n / 10) ++ (digit (n % 10) ∷ []))
+
+-- Twenty digits are enough for every place, which is below 2^64.
+abbrev pub decimal : ℕ → List ℕ
+decimal n = decimalIn 20 n
+
+-- What is known of a cell: a code below 256 is that byte, and any other is not known.
+abbrev pub shown : ℕ → List ℕ
+shown c = whether (ltb c 256) (hex c) (code "?" ∷ code "?" ∷ [])
+
+-- Values, a space in front of each.
+abbrev pub values : List ℕ → List ℕ
+values [] = []
+values (c ∷ cs) = (code " " ∷ shown c) ++ values cs
+
+-- A name, a colon, and the values.
+abbrev pub line : List ℕ → List ℕ → List ℕ
+line name cs = name ++ ((code ":" ∷ []) ++ (values cs ++ (newline ∷ [])))
+
+-- n lines of `width` values each, from line number i on, each with its name.
+abbrev pub lines : (ℕ → List ℕ) → ℕ → ℕ → ℕ → List ℕ → List ℕ
+lines name width zero i cs = []
+lines name width (suc n) i cs = line (name i) (take width cs) ++ lines name width n (suc i) (drop width cs)
