@@ -8,17 +8,24 @@ pub fn all(sum: Sum, k: Knowledge) -> Sum {
     let cgram = k.cgram;
     let adram = k.adram;
     let stored = sixteen(forty(sixteen(sum, dcram), cgram), adram);
-    let dcram_at = k.dcram_at;
-    let cgram_at = k.cgram_at;
-    let adram_at = k.adram_at;
+    let c = k.control;
+    let dcram_at = c.dcram_at;
+    let cgram_at = c.cgram_at;
+    let adram_at = c.adram_at;
     let addressed = address(address(address(stored, dcram_at), cgram_at), adram_at);
-    let column = k.column;
-    let port = k.port;
-    let duty = k.duty;
-    let digits = k.digits;
-    let lights = k.lights;
-    let position = k.position;
-    addressed.fact(column).fact(port).fact(duty).fact(digits).fact(lights).fact(position)
+    let column = c.column;
+    let port = c.port;
+    let duty = c.duty;
+    let digits = c.digits;
+    let lights = c.lights;
+    let position = c.position;
+    addressed
+        .fact(column)
+        .fact(port)
+        .fact(duty)
+        .fact(digits)
+        .fact(lights)
+        .fact(position)
 }
 
 fn sixteen(sum: Sum, row: [u16; 16]) -> Sum {

@@ -8,21 +8,28 @@ use standing::Standing;
 pub fn all(sum: Sum, family: Family, k: Knowledge) -> Sum {
     let memory = k.cells;
     let stored = cells(sum, family, memory);
-    let to = k.address;
+    let c = k.control;
+    let to = c.address;
     let addressed = address(stored, to);
-    let data = k.data;
-    let stepping = k.stepping;
-    let mode = k.mode;
-    let dimming = k.dimming;
-    let display = k.display;
-    let led = k.led;
-    let set = addressed.fact(data).fact(stepping).fact(mode).fact(dimming).fact(display).fact(led);
-    let pressed = k.keys;
+    let data = c.data;
+    let stepping = c.stepping;
+    let mode = c.mode;
+    let dimming = c.dimming;
+    let display = c.display;
+    let led = c.led;
+    let set = addressed
+        .fact(data)
+        .fact(stepping)
+        .fact(mode)
+        .fact(dimming)
+        .fact(display)
+        .fact(led);
+    let pressed = c.keys;
     let latched = keys(set, family, pressed);
-    let switches = k.switches;
+    let switches = c.switches;
     let switched = switches_in(latched, family, switches);
-    let count = k.count;
-    let position = k.position;
+    let count = c.count;
+    let position = c.position;
     switched.fact(count).fact(position)
 }
 

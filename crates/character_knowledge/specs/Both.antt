@@ -1,11 +1,11 @@
--- The single facts that two knowledges have in common, as `join` gathers them.
+-- The single facts that two controls have in common, as `join` gathers them.
 use mathlib.Core.Path.{_≡_}
 use Rattle.knowing.specs.Know.{join}
 use Rattle.standing.specs.View.{stands}
-use Rattle.character_knowledge.specs.declared.knowledge.Knowledge.{Knowledge}
+use Rattle.character_knowledge.specs.declared.control.Control.{Control}
 
 -- What `both_settings` promises: these single facts of both. The caller sets the others itself.
-pub record BothSettings (a b r : Knowledge) : Type 0 where
+pub record BothSettings (a b r : Control) : Type 0 where
   pub column : stands (r .column) ≡ join (stands (a .column)) (stands (b .column))
   pub port : stands (r .port) ≡ join (stands (a .port)) (stands (b .port))
   pub duty : stands (r .duty) ≡ join (stands (a .duty)) (stands (b .duty))

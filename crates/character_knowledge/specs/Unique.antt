@@ -5,8 +5,8 @@ use Rattle.knowing.specs.Join.{not-known, known-one}
 use Rattle.standing.specs.View.{same-single}
 use Rattle.standing.specs.Codes.{same-row}
 use Rattle.character.specs.Fact.{Fact, dcram, cgram, adram, dcramAt, cgramAt, adramAt, column, port, duty, digits, lights, position}
-use Rattle.character_knowledge.specs.declared.knowledge.Pointing.{Pointing}
-use Rattle.character_knowledge.specs.declared.knowledge.Pointing.the-variants.{At, Unknown}
+use Rattle.character_knowledge.specs.declared.control.Pointing.{Pointing}
+use Rattle.character_knowledge.specs.declared.control.Pointing.the-variants.{At, Unknown}
 use Rattle.character_knowledge.specs.declared.knowledge.Knowledge.{Knowledge}
 use Rattle.character_knowledge.specs.View.{points, kview}
 
@@ -29,26 +29,28 @@ same-knowledge a b sa sb h =
     let ds = same-row 16 (a .dcram) (b .dcram) (sa .dcram) (sb .dcram) (λ i. h (dcram i)) in
     let gs = same-row 40 (a .cgram) (b .cgram) (sa .cgram) (sb .cgram) (λ i. h (cgram i)) in
     let aa = same-row 16 (a .adram) (b .adram) (sa .adram) (sb .adram) (λ i. h (adram i)) in
-    let d = same-pointing (a .«dcram_at») (b .«dcram_at») (h dcramAt) in
-    let g = same-pointing (a .«cgram_at») (b .«cgram_at») (h cgramAt) in
-    let m = same-pointing (a .«adram_at») (b .«adram_at») (h adramAt) in
-    let c = same-single (a .column) (b .column) (h column) in
-    let p = same-single (a .port) (b .port) (h port) in
-    let u = same-single (a .duty) (b .duty) (h duty) in
-    let n = same-single (a .digits) (b .digits) (h digits) in
-    let l = same-single (a .lights) (b .lights) (h lights) in
-    let q = same-single (a .position) (b .position) (h position) in
+    let d = same-pointing (a .control .«dcram_at») (b .control .«dcram_at») (h dcramAt) in
+    let g = same-pointing (a .control .«cgram_at») (b .control .«cgram_at») (h cgramAt) in
+    let m = same-pointing (a .control .«adram_at») (b .control .«adram_at») (h adramAt) in
+    let c = same-single (a .control .column) (b .control .column) (h column) in
+    let p = same-single (a .control .port) (b .control .port) (h port) in
+    let u = same-single (a .control .duty) (b .control .duty) (h duty) in
+    let n = same-single (a .control .digits) (b .control .digits) (h digits) in
+    let l = same-single (a .control .lights) (b .control .lights) (h lights) in
+    let q = same-single (a .control .position) (b .control .position) (h position) in
     λ i. record {
       dcram = ds i;
       cgram = gs i;
       adram = aa i;
-      «dcram_at» = d i;
-      «cgram_at» = g i;
-      «adram_at» = m i;
-      column = c i;
-      port = p i;
-      duty = u i;
-      digits = n i;
-      lights = l i;
-      position = q i;
+      control = record {
+        «dcram_at» = d i;
+        «cgram_at» = g i;
+        «adram_at» = m i;
+        column = c i;
+        port = p i;
+        duty = u i;
+        digits = n i;
+        lights = l i;
+        position = q i;
+      };
     }

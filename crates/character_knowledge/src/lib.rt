@@ -1,13 +1,16 @@
 // What is known of a PT6302 panel, as a value, and what two such knowledges have in common.
+mod control;
 mod join;
 mod knowledge;
 mod numbers;
 mod ranges;
 
+pub use control::Control;
+pub use control::Pointing;
+pub use control::at;
+pub use control::no_control;
 pub use join::both;
 pub use knowledge::Knowledge;
-pub use knowledge::Pointing;
-pub use knowledge::at;
 pub use knowledge::nothing_known;
 pub use numbers::ADRAM;
 pub use numbers::CGRAM;

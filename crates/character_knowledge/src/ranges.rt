@@ -1,6 +1,7 @@
 // Number 2: whether every known value is in its fact's range.
+use crate::control::Control;
+use crate::control::Pointing;
 use crate::knowledge::Knowledge;
-use crate::knowledge::Pointing;
 use standing::all_within;
 use standing::both_hold;
 use standing::within;
@@ -10,7 +11,7 @@ ghost use Rattle.knowing.specs.Standing.{Within, Sound};
 ghost use Rattle.character.specs.Fact.{range};
 ghost use Rattle.standing.specs.View.{Tells};
 ghost use Rattle.standing.specs.Codes.{RowSound};
-ghost use Rattle.character_knowledge.specs.View.{kview, points};
+ghost use Rattle.character_knowledge.specs.View.{blank, cview, kview, points};
 ghost use Rattle.character_knowledge.specs.Ranges.{SinglesSound, OthersSound};
 
 pub fn sound(k: Knowledge) -> bool
@@ -19,9 +20,10 @@ pub fn sound(k: Knowledge) -> bool
     let dcram = k.dcram;
     let cgram = k.cgram;
     let adram = k.adram;
+    let control = k.control;
     let texts = both_hold(sixteen_sound(dcram, 256), sixteen_sound(adram, 4));
     let memory = both_hold(texts, forty_sound(cgram, 128));
-    both_hold(memory, singles_sound(k))
+    both_hold(memory, singles_sound(control))
 }
 
 fn sixteen_sound(codes: [u16; 16], limit: u16) -> bool
@@ -37,26 +39,26 @@ fn forty_sound(codes: [u16; 40], limit: u16) -> bool
 }
 
 // The addresses, the column, the other settings and the position.
-fn singles_sound(k: Knowledge) -> bool
-    ensures { λ r. ⌜ Tells r (SinglesSound (kview k)) ⌝ }
+fn singles_sound(c: Control) -> bool
+    ensures { λ r. ⌜ Tells r (SinglesSound (cview blank c)) ⌝ }
 {
-    let dcram_at = k.dcram_at;
-    let cgram_at = k.cgram_at;
-    let adram_at = k.adram_at;
-    let column = k.column;
+    let dcram_at = c.dcram_at;
+    let cgram_at = c.cgram_at;
+    let adram_at = c.adram_at;
+    let column = c.column;
     let texts = both_hold(pointing_sound(dcram_at, 16), pointing_sound(adram_at, 16));
     let glyphs = both_hold(pointing_sound(cgram_at, 8), within(column, 5));
-    both_hold(both_hold(texts, glyphs), others_sound(k))
+    both_hold(both_hold(texts, glyphs), others_sound(c))
 }
 
-fn others_sound(k: Knowledge) -> bool
-    ensures { λ r. ⌜ Tells r (OthersSound (kview k)) ⌝ }
+fn others_sound(c: Control) -> bool
+    ensures { λ r. ⌜ Tells r (OthersSound (cview blank c)) ⌝ }
 {
-    let port = k.port;
-    let duty = k.duty;
-    let digits = k.digits;
-    let lights = k.lights;
-    let position = k.position;
+    let port = c.port;
+    let duty = c.duty;
+    let digits = c.digits;
+    let lights = c.lights;
+    let position = c.position;
     let codes = both_hold(
         both_hold(within(port, 4), within(duty, 8)),
         within(digits, 8),

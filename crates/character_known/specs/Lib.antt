@@ -1,3 +1,6 @@
+pub mod Step
+pub mod Steps
+pub mod Anywhere
 pub mod Row
 pub mod Cells
 pub mod Drawn

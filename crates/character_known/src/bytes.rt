@@ -1,18 +1,19 @@
 // What a byte clocked in makes of a knowledge.
-use crate::codes::sixteen_in;
-use crate::codes::sixteen_meet;
 use crate::columns::to_draw;
 use crate::commanded::first_in;
+use crate::steps::Step;
+use crate::steps::both_steps;
+use crate::steps::kept;
 use character_knowledge::ADRAM;
 use character_knowledge::CGRAM;
+use character_knowledge::Control;
 use character_knowledge::DCRAM;
 use character_knowledge::FIRST;
 use character_knowledge::IDLE;
 use character_knowledge::IGNORING;
-use character_knowledge::Knowledge;
 use character_knowledge::Pointing;
 use character_knowledge::at;
-use character_knowledge::both;
+use standing::Change;
 use standing::Standing;
 use terms::Address;
 ghost use mathlib.Core.Path.{_≡_};
@@ -20,96 +21,104 @@ ghost use Rattle.rules.specs.Rule.{look};
 ghost use Rattle.knowing.specs.Standing.{unknown};
 ghost use Rattle.character.specs.Fact.{position, dcramAt, adramAt};
 ghost use Rattle.character.specs.Move.{shown, marked, byteIn};
-ghost use Rattle.character_knowledge.specs.View.{kview, Knows};
+ghost use Rattle.standing.specs.View.{stands};
+ghost use Rattle.standing.specs.Change.{Plain};
+ghost use Rattle.character_known.specs.Step.{Steps};
 
-pub fn byte_in(k: Knowledge, byte: u8) -> Knowledge
-    ensures { λ r. ⌜ Knows (look position (byteIn byte)) k r ⌝ }
+pub fn byte_in(c: Control, byte: u8) -> Step
+    ensures { λ r. ⌜ Steps (look position (byteIn byte)) c r ⌝ }
 {
-    let position = k.position;
+    let position = c.position;
     match position {
-        Standing::Known(place) => in_at(k, byte, place),
-        Standing::Unknown => in_anywhere(k, byte),
+        Standing::Known(place) => in_at(c, byte, place),
+        Standing::Unknown => in_anywhere(c, byte),
     }
 }
 
-fn in_at(k: Knowledge, byte: u8, place: u8) -> Knowledge
-    ensures { λ r. ⌜ Knows (byteIn byte place) k r ⌝ }
+fn in_at(c: Control, byte: u8, place: u8) -> Step
+    ensures { λ r. ⌜ Steps (byteIn byte place) c r ⌝ }
 {
     match place {
-        FIRST => first_in(k, byte),
-        DCRAM => to_show(k, byte),
-        CGRAM => to_draw(k, byte),
-        ADRAM => to_mark(k, byte),
-        _ => k,
+        FIRST => first_in(c, byte),
+        DCRAM => to_show(c, byte),
+        CGRAM => to_draw(c, byte),
+        ADRAM => to_mark(c, byte),
+        _ => kept(c),
     }
 }
 
 // At an unknown position the byte may be a command, go to any RAM, or do nothing.
-fn in_anywhere(k: Knowledge, byte: u8) -> Knowledge
-    requires { ⌜ kview k position ≡ unknown ⌝ }
-    ensures { λ r. ⌜ Knows (look position (byteIn byte)) k r ⌝ }
+fn in_anywhere(c: Control, byte: u8) -> Step
+    requires { ⌜ stands (c .position) ≡ unknown ⌝ }
+    ensures { λ r. ⌜ Steps (look position (byteIn byte)) c r ⌝ }
 {
-    let first = first_in(at(k, FIRST), byte);
-    let dcram = to_show(at(k, DCRAM), byte);
-    let cgram = to_draw(at(k, CGRAM), byte);
-    let adram = to_mark(at(k, ADRAM), byte);
-    let commanded = both(at(k, IDLE), first);
-    let stored = both(both(both(commanded, dcram), cgram), adram);
-    both(stored, at(k, IGNORING))
+    let first = first_in(at(c, FIRST), byte);
+    let dcram = to_show(at(c, DCRAM), byte);
+    let cgram = to_draw(at(c, CGRAM), byte);
+    let adram = to_mark(at(c, ADRAM), byte);
+    let commanded = both_steps(kept(at(c, IDLE)), first);
+    let stored = both_steps(both_steps(both_steps(commanded, dcram), cgram), adram);
+    both_steps(stored, kept(at(c, IGNORING)))
 }
 
-// A byte goes to DCRAM.
-fn to_show(k: Knowledge, byte: u8) -> Knowledge
-    ensures { λ r. ⌜ Knows (look dcramAt (shown byte)) k r ⌝ }
+// A byte goes to DCRAM, and the other RAMs stay.
+fn to_show(c: Control, byte: u8) -> Step
+    ensures { λ r. ⌜ (Steps (look dcramAt (shown byte)) c r) × ((Plain (r .cgram)) × (Plain (r .adram))) ⌝ }
 {
-    let to = k.dcram_at;
+    let to = c.dcram_at;
     match to {
-        Pointing::At(address) => show_at(k, byte, address),
-        Pointing::Unknown => {
-            let old = k.dcram;
-            let dcram = sixteen_meet(old, byte);
-            Knowledge { dcram, ..k }
-        }
+        Pointing::At(address) => show_at(c, byte, address),
+        Pointing::Unknown => Step {
+            control: c,
+            dcram: Change::Meet(Address(0), 1, 16, byte),
+            cgram: Change::Keep,
+            adram: Change::Keep,
+        },
     }
 }
 
-fn show_at(k: Knowledge, byte: u8, address: Address) -> Knowledge
-    ensures { λ r. ⌜ Knows (shown byte (address .0)) k r ⌝ }
+fn show_at(c: Control, byte: u8, address: Address) -> Step
+    ensures { λ r. ⌜ (Steps (shown byte (address .0)) c r) × ((Plain (r .cgram)) × (Plain (r .adram))) ⌝ }
 {
-    let old = k.dcram;
     let cell = address.0 % 16;
-    let dcram = sixteen_in(old, Address(cell), byte);
-    Knowledge {
-        dcram,
-        dcram_at: Pointing::At(Address((cell + 1) % 16)),
-        ..k
+    Step {
+        control: Control {
+            dcram_at: Pointing::At(Address((cell + 1) % 16)),
+            ..c
+        },
+        dcram: Change::Put(Address(cell), byte),
+        cgram: Change::Keep,
+        adram: Change::Keep,
     }
 }
 
-// A pair of bits goes to ADRAM.
-fn to_mark(k: Knowledge, byte: u8) -> Knowledge
-    ensures { λ r. ⌜ Knows (look adramAt (marked byte)) k r ⌝ }
+// A pair of bits goes to ADRAM, and the other RAMs stay.
+fn to_mark(c: Control, byte: u8) -> Step
+    ensures { λ r. ⌜ (Steps (look adramAt (marked byte)) c r) × ((Plain (r .dcram)) × (Plain (r .cgram))) ⌝ }
 {
-    let to = k.adram_at;
+    let to = c.adram_at;
     match to {
-        Pointing::At(address) => mark_at(k, byte, address),
-        Pointing::Unknown => {
-            let old = k.adram;
-            let adram = sixteen_meet(old, byte % 4);
-            Knowledge { adram, ..k }
-        }
+        Pointing::At(address) => mark_at(c, byte, address),
+        Pointing::Unknown => Step {
+            control: c,
+            dcram: Change::Keep,
+            cgram: Change::Keep,
+            adram: Change::Meet(Address(0), 1, 16, byte % 4),
+        },
     }
 }
 
-fn mark_at(k: Knowledge, byte: u8, address: Address) -> Knowledge
-    ensures { λ r. ⌜ Knows (marked byte (address .0)) k r ⌝ }
+fn mark_at(c: Control, byte: u8, address: Address) -> Step
+    ensures { λ r. ⌜ (Steps (marked byte (address .0)) c r) × ((Plain (r .dcram)) × (Plain (r .cgram))) ⌝ }
 {
-    let old = k.adram;
     let cell = address.0 % 16;
-    let adram = sixteen_in(old, Address(cell), byte % 4);
-    Knowledge {
-        adram,
-        adram_at: Pointing::At(Address((cell + 1) % 16)),
-        ..k
+    Step {
+        control: Control {
+            adram_at: Pointing::At(Address((cell + 1) % 16)),
+            ..c
+        },
+        dcram: Change::Keep,
+        cgram: Change::Keep,
+        adram: Change::Put(Address(cell), byte % 4),
     }
 }

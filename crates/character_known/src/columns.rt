@@ -1,8 +1,9 @@
-// What a column clocked in makes of a knowledge. Where the character or the column is unknown, it may be in any of several places.
-use crate::codes::forty_in;
-use crate::codes::forty_meet;
-use character_knowledge::Knowledge;
+// What a column clocked in makes of a knowledge: it goes to CGRAM, and the other RAMs stay. Where the character or the column is unknown, it may be
+// in any of several places.
+use crate::steps::Step;
+use character_knowledge::Control;
 use character_knowledge::Pointing;
+use standing::Change;
 use standing::Standing;
 use terms::Address;
 ghost use mathlib.Core.Path.{_≡_};
@@ -10,88 +11,101 @@ ghost use Rattle.rules.specs.Rule.{look};
 ghost use Rattle.knowing.specs.Standing.{known, unknown};
 ghost use Rattle.character.specs.Fact.{cgramAt, column};
 ghost use Rattle.character.specs.Move.{drawn};
-ghost use Rattle.character_knowledge.specs.View.{kview, Knows};
+ghost use Rattle.standing.specs.View.{stands};
+ghost use Rattle.standing.specs.Change.{Plain};
+ghost use Rattle.character_knowledge.specs.View.{points};
+ghost use Rattle.character_known.specs.Step.{Steps};
 
-pub fn to_draw(k: Knowledge, byte: u8) -> Knowledge
-    ensures { λ r. ⌜ Knows (look cgramAt (λ a. look column (drawn byte a))) k r ⌝ }
+pub fn to_draw(c: Control, byte: u8) -> Step
+    ensures { λ r. ⌜ (Steps (look cgramAt (λ a. look column (drawn byte a))) c r) × ((Plain (r .dcram)) × (Plain (r .adram))) ⌝ }
 {
-    let to = k.cgram_at;
+    let to = c.cgram_at;
     match to {
-        Pointing::At(address) => draw_in(k, byte, address),
-        Pointing::Unknown => draw_anywhere(k, byte),
+        Pointing::At(address) => draw_in(c, byte, address),
+        Pointing::Unknown => draw_anywhere(c, byte),
     }
 }
 
 // The character is known.
-fn draw_in(k: Knowledge, byte: u8, address: Address) -> Knowledge
-    requires { ⌜ kview k cgramAt ≡ known (address .0) ⌝ }
-    ensures { λ r. ⌜ Knows (look column (drawn byte (address .0))) k r ⌝ }
+fn draw_in(c: Control, byte: u8, address: Address) -> Step
+    requires { ⌜ points (c .«cgram_at») ≡ known (address .0) ⌝ }
+    ensures { λ r. ⌜ (Steps (look column (drawn byte (address .0))) c r) × ((Plain (r .dcram)) × (Plain (r .adram))) ⌝ }
 {
-    let column = k.column;
+    let column = c.column;
     match column {
-        Standing::Known(number) => draw_at(k, byte, address, number),
-        Standing::Unknown => {
-            let old = k.cgram;
-            let cgram = forty_meet(old, address.0 % 8 * 5, 1, 5, byte % 128);
-            Knowledge {
-                cgram,
+        Standing::Known(number) => draw_at(c, byte, address, number),
+        Standing::Unknown => Step {
+            control: Control {
                 cgram_at: Pointing::Unknown,
-                ..k
-            }
-        }
+                ..c
+            },
+            dcram: Change::Keep,
+            cgram: Change::Meet(Address(address.0 % 8 * 5), 1, 5, byte % 128),
+            adram: Change::Keep,
+        },
     }
 }
 
 // Both are known.
-fn draw_at(k: Knowledge, byte: u8, address: Address, number: u8) -> Knowledge
-    ensures { λ r. ⌜ Knows (drawn byte (address .0) number) k r ⌝ }
+fn draw_at(c: Control, byte: u8, address: Address, number: u8) -> Step
+    ensures { λ r. ⌜ (Steps (drawn byte (address .0) number) c r) × ((Plain (r .dcram)) × (Plain (r .adram))) ⌝ }
 {
-    let old = k.cgram;
     let character = address.0 % 8;
     let column = number % 5;
-    let cgram = forty_in(old, character * 5 + column, byte % 128);
+    let cgram = Change::Put(Address(character * 5 + column), byte % 128);
     if column == 4 {
-        Knowledge {
+        Step {
+            control: Control {
+                cgram_at: Pointing::At(Address((character + 1) % 8)),
+                column: Standing::Known(0),
+                ..c
+            },
+            dcram: Change::Keep,
             cgram,
-            cgram_at: Pointing::At(Address((character + 1) % 8)),
-            column: Standing::Known(0),
-            ..k
+            adram: Change::Keep,
         }
     } else {
-        Knowledge {
+        Step {
+            control: Control {
+                column: Standing::Known(column + 1),
+                ..c
+            },
+            dcram: Change::Keep,
             cgram,
-            column: Standing::Known(column + 1),
-            ..k
+            adram: Change::Keep,
         }
     }
 }
 
 // The character is unknown, and stays so.
-fn draw_anywhere(k: Knowledge, byte: u8) -> Knowledge
-    requires { ⌜ kview k cgramAt ≡ unknown ⌝ }
-    ensures { λ r. ⌜ Knows (look cgramAt (λ a. look column (drawn byte a))) k r ⌝ }
+fn draw_anywhere(c: Control, byte: u8) -> Step
+    requires { ⌜ points (c .«cgram_at») ≡ unknown ⌝ }
+    ensures { λ r. ⌜ (Steps (look cgramAt (λ a. look column (drawn byte a))) c r) × ((Plain (r .dcram)) × (Plain (r .adram))) ⌝ }
 {
-    let column = k.column;
+    let column = c.column;
     match column {
-        Standing::Known(number) => draw_column(k, byte, number),
-        Standing::Unknown => {
-            let old = k.cgram;
-            let cgram = forty_meet(old, 0, 1, 40, byte % 128);
-            Knowledge { cgram, ..k }
-        }
+        Standing::Known(number) => draw_column(c, byte, number),
+        Standing::Unknown => Step {
+            control: c,
+            dcram: Change::Keep,
+            cgram: Change::Meet(Address(0), 1, 40, byte % 128),
+            adram: Change::Keep,
+        },
     }
 }
 
-fn draw_column(k: Knowledge, byte: u8, number: u8) -> Knowledge
-    requires { ⌜ (kview k cgramAt ≡ unknown) × (kview k column ≡ known number) ⌝ }
-    ensures { λ r. ⌜ Knows (look cgramAt (λ a. look column (drawn byte a))) k r ⌝ }
+fn draw_column(c: Control, byte: u8, number: u8) -> Step
+    requires { ⌜ (points (c .«cgram_at») ≡ unknown) × (stands (c .column) ≡ known number) ⌝ }
+    ensures { λ r. ⌜ (Steps (look cgramAt (λ a. look column (drawn byte a))) c r) × ((Plain (r .dcram)) × (Plain (r .adram))) ⌝ }
 {
-    let old = k.cgram;
     let at = number % 5;
-    let cgram = forty_meet(old, at, 5, 8, byte % 128);
-    Knowledge {
-        cgram,
-        column: Standing::Known((at + 1) % 5),
-        ..k
+    Step {
+        control: Control {
+            column: Standing::Known((at + 1) % 5),
+            ..c
+        },
+        dcram: Change::Keep,
+        cgram: Change::Meet(Address(at), 5, 8, byte % 128),
+        adram: Change::Keep,
     }
 }

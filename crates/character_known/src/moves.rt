@@ -1,51 +1,78 @@
 // What each event makes of a knowledge.
 use crate::bytes::byte_in;
+use crate::steps::Step;
+use crate::steps::forgotten;
+use crate::steps::kept;
+use character_knowledge::Control;
 use character_knowledge::FIRST;
 use character_knowledge::IDLE;
 use character_knowledge::Knowledge;
 use character_knowledge::OFF;
 use character_knowledge::Pointing;
 use character_knowledge::at;
-use character_knowledge::nothing_known;
+use character_knowledge::no_control;
 use standing::Standing;
+use standing::apply;
 use terms::Address;
 use terms::Event;
 ghost use Rattle.rules.specs.Rule.{gives, free};
 ghost use Rattle.character.specs.Move.{powered, move};
-ghost use Rattle.knowing.specs.Ways.{Becomes};
-ghost use Rattle.character_knowledge.specs.View.{kview, Knows};
+ghost use Rattle.character_knowledge.specs.View.{Knows};
+ghost use Rattle.character_known.specs.Step.{Steps};
 
-// The knowledge after an event. Keys, switches and bytes out are no events of this part, and change nothing.
+// The knowledge after an event.
 pub fn moved(k: Knowledge, event: Event) -> Knowledge
     ensures { λ r. ⌜ Knows (move event) k r ⌝ }
 {
+    let was = k.control;
+    let next = step(was, event);
+    let mut dcram = k.dcram;
+    let to_dcram = next.dcram;
+    apply(&mut dcram, to_dcram);
+    let mut cgram = k.cgram;
+    let to_cgram = next.cgram;
+    apply(&mut cgram, to_cgram);
+    let mut adram = k.adram;
+    let to_adram = next.adram;
+    apply(&mut adram, to_adram);
+    let control = next.control;
+    Knowledge {
+        dcram,
+        cgram,
+        adram,
+        control,
+    }
+}
+
+// What an event does, by what is known beside the memory. Keys, switches and bytes out are no events of this part, and change nothing.
+pub fn step(c: Control, event: Event) -> Step
+    ensures { λ r. ⌜ Steps (move event) c r ⌝ }
+{
     match event {
-        Event::Power => at_power(k),
-        Event::Falls => at(k, FIRST),
-        Event::ByteIn(byte) => byte_in(k, byte),
-        Event::Rises => at(k, IDLE),
-        Event::Gap => lost(k),
-        Event::Unfinished(_) => at(k, IDLE),
-        Event::Keys(_, _, _, _) => k,
-        Event::Switches(_) => k,
-        Event::ByteOut => k,
+        Event::Power => at_power(c),
+        Event::Falls => kept(at(c, FIRST)),
+        Event::ByteIn(byte) => byte_in(c, byte),
+        Event::Rises => kept(at(c, IDLE)),
+        Event::Gap => lost(c),
+        Event::Unfinished(_) => kept(at(c, IDLE)),
+        Event::Keys(_, _, _, _) => kept(c),
+        Event::Switches(_) => kept(c),
+        Event::ByteOut => kept(c),
     }
 }
 
 // Whatever was known, events were lost.
-fn lost(k: Knowledge) -> Knowledge
-    ensures { λ r. ⌜ Becomes kview (λ f. free) k r ⌝ }
+fn lost(c: Control) -> Step
+    ensures { λ r. ⌜ Steps (gives (λ f. free)) c r ⌝ }
 {
-    nothing_known()
+    let control = no_control();
+    forgotten(control)
 }
 
-fn at_power(k: Knowledge) -> Knowledge
-    ensures { λ r. ⌜ Knows (gives powered) k r ⌝ }
+fn at_power(c: Control) -> Step
+    ensures { λ r. ⌜ Steps (gives powered) c r ⌝ }
 {
-    Knowledge {
-        dcram: [256; 16],
-        cgram: [256; 40],
-        adram: [256; 16],
+    forgotten(Control {
         dcram_at: Pointing::At(Address(0)),
         cgram_at: Pointing::At(Address(0)),
         adram_at: Pointing::At(Address(0)),
@@ -55,5 +82,5 @@ fn at_power(k: Knowledge) -> Knowledge
         digits: Standing::Known(0),
         lights: Standing::Known(OFF),
         position: Standing::Known(IDLE),
-    }
+    })
 }

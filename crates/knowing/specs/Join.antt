@@ -136,3 +136,9 @@ join-again s t =
     same-standing (join (join s t) t) (join s t)
     (λ v e. join-known (join s t) t v e .0)
     (λ v e. join-both (join s t) t v e (join-known s t v e .1))
+
+-- A way has in common with itself what it has.
+pub join-itself : (s : Standing) → join s s ≡ s
+unfolding join
+join-itself (known v) = join-both (known v) (known v) v refl refl
+join-itself unknown = refl

@@ -42,7 +42,7 @@ fn segment_sends(family: Family, panel: Panel) -> Report
 {
     let k = panel.segment;
     if segment_knowledge::sound(family, k) {
-        Report::Is(sent_next(family, k))
+        Report::Is(sent_next(family, k.control))
     } else {
         Report::OutOfRange(Place(0))
     }

@@ -1,5 +1,6 @@
 // What an example of PT6302 starts from.
 use crate::codes::fact;
+use character_knowledge::Control;
 use character_knowledge::DCRAM;
 use character_knowledge::Knowledge;
 use character_knowledge::ON;
@@ -14,15 +15,17 @@ pub fn all_known() -> Knowledge {
         dcram: [0x6E; 16],
         cgram: [0x6E; 40],
         adram: [2; 16],
-        dcram_at: Pointing::At(Address(5)),
-        cgram_at: Pointing::At(Address(6)),
-        adram_at: Pointing::At(Address(7)),
-        column: Standing::Known(3),
-        port: Standing::Known(2),
-        duty: Standing::Known(5),
-        digits: Standing::Known(4),
-        lights: Standing::Known(ON),
-        position: Standing::Known(DCRAM),
+        control: Control {
+            dcram_at: Pointing::At(Address(5)),
+            cgram_at: Pointing::At(Address(6)),
+            adram_at: Pointing::At(Address(7)),
+            column: Standing::Known(3),
+            port: Standing::Known(2),
+            duty: Standing::Known(5),
+            digits: Standing::Known(4),
+            lights: Standing::Known(ON),
+            position: Standing::Known(DCRAM),
+        },
     }
 }
 
@@ -45,40 +48,44 @@ pub fn told(k: Knowledge, word: u8, at: u8, code: u16) -> Knowledge {
             let adram = with_sixteenth(old, at, code);
             Knowledge { adram, ..k }
         }
-        _ => single_told(k, word, code),
+        _ => {
+            let c = k.control;
+            let control = single_told(c, word, code);
+            Knowledge { control, ..k }
+        }
     }
 }
 
-fn single_told(k: Knowledge, word: u8, code: u16) -> Knowledge {
+fn single_told(c: Control, word: u8, code: u16) -> Control {
     match word {
-        b'd' => Knowledge {
+        b'd' => Control {
             dcram_at: pointing(code),
-            ..k
+            ..c
         },
-        b'g' => Knowledge {
+        b'g' => Control {
             cgram_at: pointing(code),
-            ..k
+            ..c
         },
-        b'a' => Knowledge {
+        b'a' => Control {
             adram_at: pointing(code),
-            ..k
+            ..c
         },
-        _ => setting_told(k, word, fact(code)),
+        _ => setting_told(c, word, fact(code)),
     }
 }
 
-fn setting_told(k: Knowledge, word: u8, fact: Standing) -> Knowledge {
+fn setting_told(c: Control, word: u8, fact: Standing) -> Control {
     match word {
-        b'c' => Knowledge { column: fact, ..k },
-        b'o' => Knowledge { port: fact, ..k },
-        b'b' => Knowledge { duty: fact, ..k },
-        b'w' => Knowledge { digits: fact, ..k },
-        b'l' => Knowledge { lights: fact, ..k },
-        b'p' => Knowledge {
+        b'c' => Control { column: fact, ..c },
+        b'o' => Control { port: fact, ..c },
+        b'b' => Control { duty: fact, ..c },
+        b'w' => Control { digits: fact, ..c },
+        b'l' => Control { lights: fact, ..c },
+        b'p' => Control {
             position: fact,
-            ..k
+            ..c
         },
-        _ => k,
+        _ => c,
     }
 }
 

@@ -1,5 +1,6 @@
 // What an example of PT6312 or PT6315 starts from.
 use crate::codes::fact;
+use segment_knowledge::Control;
 use segment_knowledge::INCREMENT;
 use segment_knowledge::Knowledge;
 use segment_knowledge::ON;
@@ -14,17 +15,19 @@ use terms::Address;
 pub fn all_known() -> Knowledge {
     Knowledge {
         cells: [0x6E; 36],
-        address: Pointing::At(Address(5)),
-        data: Standing::Known(WRITE_DISPLAY),
-        stepping: Standing::Known(INCREMENT),
-        mode: Standing::Known(3),
-        dimming: Standing::Known(5),
-        display: Standing::Known(ON),
-        led: Standing::Known(9),
-        keys: [0xA1, 0xA2, 0xA3, 0xA4],
-        switches: Standing::Known(6),
-        count: Standing::Known(2),
-        position: Standing::Known(OPEN),
+        control: Control {
+            address: Pointing::At(Address(5)),
+            data: Standing::Known(WRITE_DISPLAY),
+            stepping: Standing::Known(INCREMENT),
+            mode: Standing::Known(3),
+            dimming: Standing::Known(5),
+            display: Standing::Known(ON),
+            led: Standing::Known(9),
+            keys: [0xA1, 0xA2, 0xA3, 0xA4],
+            switches: Standing::Known(6),
+            count: Standing::Known(2),
+            position: Standing::Known(OPEN),
+        },
     }
 }
 
@@ -37,48 +40,57 @@ pub fn told(k: Knowledge, word: u8, at: u8, code: u16) -> Knowledge {
             let cells = with_cell(old, at, code);
             Knowledge { cells, ..k }
         }
-        b'k' => {
-            let old = k.keys;
-            let keys = with_key(old, at, code);
-            Knowledge { keys, ..k }
-        }
         b'e' => Knowledge {
             cells: [code; 36],
             ..k
         },
-        b'a' => Knowledge {
-            address: pointing(code),
-            ..k
-        },
-        b'i' => Knowledge {
-            address: Pointing::Invalid,
-            ..k
-        },
-        _ => single_told(k, word, fact(code)),
+        _ => {
+            let control = beside(k.control, word, at, code);
+            Knowledge { control, ..k }
+        }
     }
 }
 
-fn single_told(k: Knowledge, word: u8, fact: Standing) -> Knowledge {
+fn beside(c: Control, word: u8, at: u8, code: u16) -> Control {
     match word {
-        b'd' => Knowledge { data: fact, ..k },
-        b'f' => Knowledge {
+        b'k' => {
+            let old = c.keys;
+            let keys = with_key(old, at, code);
+            Control { keys, ..c }
+        }
+        b'a' => Control {
+            address: pointing(code),
+            ..c
+        },
+        b'i' => Control {
+            address: Pointing::Invalid,
+            ..c
+        },
+        _ => single_told(c, word, fact(code)),
+    }
+}
+
+fn single_told(c: Control, word: u8, fact: Standing) -> Control {
+    match word {
+        b'd' => Control { data: fact, ..c },
+        b'f' => Control {
             stepping: fact,
-            ..k
+            ..c
         },
-        b'm' => Knowledge { mode: fact, ..k },
-        b'b' => Knowledge { dimming: fact, ..k },
-        b'o' => Knowledge { display: fact, ..k },
-        b'l' => Knowledge { led: fact, ..k },
-        b's' => Knowledge {
+        b'm' => Control { mode: fact, ..c },
+        b'b' => Control { dimming: fact, ..c },
+        b'o' => Control { display: fact, ..c },
+        b'l' => Control { led: fact, ..c },
+        b's' => Control {
             switches: fact,
-            ..k
+            ..c
         },
-        b'r' => Knowledge { count: fact, ..k },
-        b'p' => Knowledge {
+        b'r' => Control { count: fact, ..c },
+        b'p' => Control {
             position: fact,
-            ..k
+            ..c
         },
-        _ => k,
+        _ => c,
     }
 }
 

@@ -2,6 +2,7 @@
 use crate::codes;
 use crate::print;
 use segment::Family;
+use segment_knowledge::Control;
 use segment_knowledge::FIRST;
 use segment_knowledge::FIXED;
 use segment_knowledge::IDLE;
@@ -19,33 +20,34 @@ use segment_knowledge::WRITE_LED;
 use standing::Standing;
 
 pub fn show(family: Family, k: Knowledge) {
-    let at = k.position;
+    let c = k.control;
+    let at = c.position;
     position(at);
-    let mode = k.data;
+    let mode = c.data;
     data(mode);
-    let step = k.stepping;
+    let step = c.stepping;
     stepping(step);
-    let to = k.address;
+    let to = c.address;
     address(to);
-    let count = k.count;
+    let count = c.count;
     print::fact(b", read count ", count);
-    settings(k);
-    let pressed = k.keys;
+    settings(c);
+    let pressed = c.keys;
     keys(family, pressed);
-    let set = k.switches;
+    let set = c.switches;
     switches(family, set);
     let memory = k.cells;
     cells(family, memory);
 }
 
-fn settings(k: Knowledge) {
-    let mode = k.mode;
+fn settings(c: Control) {
+    let mode = c.mode;
     print::fact(b"\n    mode ", mode);
-    let dimming = k.dimming;
+    let dimming = c.dimming;
     print::fact(b", dimming ", dimming);
-    let shown = k.display;
+    let shown = c.display;
     display(shown);
-    let led = k.led;
+    let led = c.led;
     print::fact(b", LED ", led);
 }
 

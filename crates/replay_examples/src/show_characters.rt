@@ -3,6 +3,7 @@ use crate::codes;
 use crate::print;
 use character_knowledge::ADRAM;
 use character_knowledge::CGRAM;
+use character_knowledge::Control;
 use character_knowledge::DCRAM;
 use character_knowledge::FIRST;
 use character_knowledge::IDLE;
@@ -21,28 +22,29 @@ pub fn show(k: Knowledge) {
     forty(b", CGRAM", cgram);
     let adram = k.adram;
     sixteen(b", ADRAM", adram);
-    let at = k.position;
+    let c = k.control;
+    let at = c.position;
     position(at);
-    let dcram_at = k.dcram_at;
+    let dcram_at = c.dcram_at;
     address(b", DCRAM at ", dcram_at);
-    let cgram_at = k.cgram_at;
+    let cgram_at = c.cgram_at;
     address(b", CGRAM at ", cgram_at);
-    let column = k.column;
+    let column = c.column;
     print::fact(b", column ", column);
-    let adram_at = k.adram_at;
+    let adram_at = c.adram_at;
     address(b", ADRAM at ", adram_at);
-    settings(k);
+    settings(c);
     print::text(b"\n");
 }
 
-fn settings(k: Knowledge) {
-    let port = k.port;
+fn settings(c: Control) {
+    let port = c.port;
     print::fact(b", port ", port);
-    let duty = k.duty;
+    let duty = c.duty;
     print::fact(b", duty ", duty);
-    let digits = k.digits;
+    let digits = c.digits;
     print::fact(b", digits ", digits);
-    let lit = k.lights;
+    let lit = c.lights;
     lights(lit);
 }
 

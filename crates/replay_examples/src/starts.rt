@@ -34,17 +34,19 @@ fn all_known() -> Panel {
 fn segments() -> segment_knowledge::Knowledge {
     segment_knowledge::Knowledge {
         cells: [0x6E; 36],
-        address: segment_knowledge::Pointing::At(Address(5)),
-        data: Standing::Known(segment_knowledge::WRITE_DISPLAY),
-        stepping: Standing::Known(segment_knowledge::INCREMENT),
-        mode: Standing::Known(3),
-        dimming: Standing::Known(5),
-        display: Standing::Known(segment_knowledge::ON),
-        led: Standing::Known(9),
-        keys: [0xA1, 0xA2, 0xA3, 0xA4],
-        switches: Standing::Known(6),
-        count: Standing::Known(2),
-        position: Standing::Known(segment_knowledge::OPEN),
+        control: segment_knowledge::Control {
+            address: segment_knowledge::Pointing::At(Address(5)),
+            data: Standing::Known(segment_knowledge::WRITE_DISPLAY),
+            stepping: Standing::Known(segment_knowledge::INCREMENT),
+            mode: Standing::Known(3),
+            dimming: Standing::Known(5),
+            display: Standing::Known(segment_knowledge::ON),
+            led: Standing::Known(9),
+            keys: [0xA1, 0xA2, 0xA3, 0xA4],
+            switches: Standing::Known(6),
+            count: Standing::Known(2),
+            position: Standing::Known(segment_knowledge::OPEN),
+        },
     }
 }
 
@@ -53,28 +55,34 @@ fn characters() -> character_knowledge::Knowledge {
         dcram: [0x6E; 16],
         cgram: [0x6E; 40],
         adram: [2; 16],
-        dcram_at: character_knowledge::Pointing::At(Address(5)),
-        cgram_at: character_knowledge::Pointing::At(Address(6)),
-        adram_at: character_knowledge::Pointing::At(Address(7)),
-        column: Standing::Known(3),
-        port: Standing::Known(2),
-        duty: Standing::Known(5),
-        digits: Standing::Known(4),
-        lights: Standing::Known(character_knowledge::ON),
-        position: Standing::Known(character_knowledge::DCRAM),
+        control: character_knowledge::Control {
+            dcram_at: character_knowledge::Pointing::At(Address(5)),
+            cgram_at: character_knowledge::Pointing::At(Address(6)),
+            adram_at: character_knowledge::Pointing::At(Address(7)),
+            column: Standing::Known(3),
+            port: Standing::Known(2),
+            duty: Standing::Known(5),
+            digits: Standing::Known(4),
+            lights: Standing::Known(character_knowledge::ON),
+            position: Standing::Known(character_knowledge::DCRAM),
+        },
     }
 }
 
 fn wrong_led(k: segment_knowledge::Knowledge) -> segment_knowledge::Knowledge {
-    segment_knowledge::Knowledge {
+    let c = k.control;
+    let control = segment_knowledge::Control {
         led: Standing::Known(16),
-        ..k
-    }
+        ..c
+    };
+    segment_knowledge::Knowledge { control, ..k }
 }
 
 fn wrong_port(k: character_knowledge::Knowledge) -> character_knowledge::Knowledge {
-    character_knowledge::Knowledge {
+    let c = k.control;
+    let control = character_knowledge::Control {
         port: Standing::Known(4),
-        ..k
-    }
+        ..c
+    };
+    character_knowledge::Knowledge { control, ..k }
 }

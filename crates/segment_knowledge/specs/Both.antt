@@ -1,11 +1,11 @@
--- The single facts that two knowledges have in common, as `join` gathers them.
+-- The single facts that two controls have in common, as `join` gathers them.
 use mathlib.Core.Path.{_≡_}
 use Rattle.knowing.specs.Know.{join}
 use Rattle.standing.specs.View.{stands}
-use Rattle.segment_knowledge.specs.declared.knowledge.Knowledge.{Knowledge}
+use Rattle.segment_knowledge.specs.declared.control.Control.{Control}
 
 -- What `both_settings` promises: these single facts of both. The caller sets the others itself.
-pub record BothSettings (a b r : Knowledge) : Type 0 where
+pub record BothSettings (a b r : Control) : Type 0 where
   pub mode : stands (r .mode) ≡ join (stands (a .mode)) (stands (b .mode))
   pub dimming : stands (r .dimming) ≡ join (stands (a .dimming)) (stands (b .dimming))
   pub display : stands (r .display) ≡ join (stands (a .display)) (stands (b .display))

@@ -39,18 +39,18 @@ in-row l n h i p = simp (lt-ltb i n p) at (h i)
 
 module _ (s : Sizes) (k : Knowledge) where
   abbrev pub Parts : Type 0
-  Parts = (RowSound (k .cells) (s .cells) 256 × RowSound (k .keys) (s .keys) 256) × SinglesSound s (kview k)
+  Parts = (RowSound (k .cells) (s .cells) 256 × RowSound (k .control .keys) (s .keys) 256) × SinglesSound s (kview k)
 
-  pub sound-whole : Small (k .cells) → Small (k .keys) → Parts → Sound (range s) (kview k)
+  pub sound-whole : Small (k .cells) → Small (k .control .keys) → Parts → Sound (range s) (kview k)
   sound-whole small tiny p =
       let a = p .1 .0 in
       let o = p .1 .1 in
       every (λ (f : Fact). In s (kview k) f) (λ i. row-in (k .cells) (s .cells) i small (p .0 .0)) (a .0 .0 .0) (a .0 .1 .0) (a .0 .0 .1) (a .0 .1 .1) (o .0 .0 .0) (o .0 .0 .1) (o .0 .1)
-      (λ i. row-in (k .keys) (s .keys) i tiny (p .0 .1)) (a .1) (o .1 .0) (o .1 .1)
+      (λ i. row-in (k .control .keys) (s .keys) i tiny (p .0 .1)) (a .1) (o .1 .0) (o .1 .1)
 
   pub sound-parts : Sound (range s) (kview k) → Parts
   sound-parts h = (
-    (in-row (k .cells) (s .cells) (λ i. h (cell i)), in-row (k .keys) (s .keys) (λ i. h (key i))),
+    (in-row (k .cells) (s .cells) (λ i. h (cell i)), in-row (k .control .keys) (s .keys) (λ i. h (key i))),
     ((((h address, h stepping), (h dataMode, h mode)), h switches), (((h dimming, h display), h led), (h readCount, h position))),
   )
 

@@ -7,15 +7,15 @@ use Rattle.knowing.specs.Join.{not-known, known-one}
 use Rattle.standing.specs.View.{same-single}
 use Rattle.standing.specs.Codes.{same-row}
 use Rattle.segment.specs.Fact.{Fact, cell, address, dataMode, stepping, mode, dimming, display, led, key, switches, readCount, position}
-use Rattle.segment_knowledge.specs.declared.knowledge.Pointing.{Pointing}
-use Rattle.segment_knowledge.specs.declared.knowledge.Pointing.the-variants.{At, Invalid, Unknown}
+use Rattle.segment_knowledge.specs.declared.control.Pointing.{Pointing}
+use Rattle.segment_knowledge.specs.declared.control.Pointing.the-variants.{At, Invalid, Unknown}
 use Rattle.segment_knowledge.specs.declared.knowledge.Knowledge.{Knowledge}
 use Rattle.segment_knowledge.specs.View.{points, kview}
 
 -- The rows are as long as the arrays of the type. This holds of every knowledge that code hands over.
 pub record Shaped (k : Knowledge) : Type 0 where
   pub cells : length (k .cells) ≡ 36
-  pub keys : length (k .keys) ≡ 4
+  pub keys : length (k .control .keys) ≡ 4
 
 same-pointing : (a b : Pointing) → points a ≡ points b → a ≡ b
 same-pointing (At x) (At y) e =
@@ -40,28 +40,30 @@ same-pointing Unknown Unknown e = refl
 pub same-knowledge : (a b : Knowledge) → Shaped a → Shaped b → ((f : Fact) → kview a f ≡ kview b f) → a ≡ b
 same-knowledge a b sa sb h =
     let cs = same-row 36 (a .cells) (b .cells) (sa .cells) (sb .cells) (λ i. h (cell i)) in
-    let ks = same-row 4 (a .keys) (b .keys) (sa .keys) (sb .keys) (λ i. h (key i)) in
-    let to = same-pointing (a .address) (b .address) (h address) in
-    let d = same-single (a .«data») (b .«data») (h dataMode) in
-    let st = same-single (a .stepping) (b .stepping) (h stepping) in
-    let m = same-single (a .mode) (b .mode) (h mode) in
-    let di = same-single (a .dimming) (b .dimming) (h dimming) in
-    let o = same-single (a .display) (b .display) (h display) in
-    let l = same-single (a .led) (b .led) (h led) in
-    let sw = same-single (a .switches) (b .switches) (h switches) in
-    let n = same-single (a .count) (b .count) (h readCount) in
-    let p = same-single (a .position) (b .position) (h position) in
+    let ks = same-row 4 (a .control .keys) (b .control .keys) (sa .keys) (sb .keys) (λ i. h (key i)) in
+    let to = same-pointing (a .control .address) (b .control .address) (h address) in
+    let d = same-single (a .control .«data») (b .control .«data») (h dataMode) in
+    let st = same-single (a .control .stepping) (b .control .stepping) (h stepping) in
+    let m = same-single (a .control .mode) (b .control .mode) (h mode) in
+    let di = same-single (a .control .dimming) (b .control .dimming) (h dimming) in
+    let o = same-single (a .control .display) (b .control .display) (h display) in
+    let l = same-single (a .control .led) (b .control .led) (h led) in
+    let sw = same-single (a .control .switches) (b .control .switches) (h switches) in
+    let n = same-single (a .control .count) (b .control .count) (h readCount) in
+    let p = same-single (a .control .position) (b .control .position) (h position) in
     λ i. record {
       cells = cs i;
-      address = to i;
-      «data» = d i;
-      stepping = st i;
-      mode = m i;
-      dimming = di i;
-      display = o i;
-      led = l i;
-      keys = ks i;
-      switches = sw i;
-      count = n i;
-      position = p i;
+      control = record {
+        address = to i;
+        «data» = d i;
+        stepping = st i;
+        mode = m i;
+        dimming = di i;
+        display = o i;
+        led = l i;
+        keys = ks i;
+        switches = sw i;
+        count = n i;
+        position = p i;
+      };
     }

@@ -1,5 +1,6 @@
 -- A knowledge as a function from facts to what is known of them.
-use Prim.Native.Nat.{suc}
+use Prim.Native.Nat.{ℕ, suc}
+use mathlib.Core.List.{List}
 use lib.ListN.{getD}
 use Rattle.rules.specs.Rule.{Rule}
 use Rattle.knowing.specs.Standing as Of
@@ -7,28 +8,37 @@ use Rattle.knowing.specs.Ways as Ways
 use Rattle.segment.specs.declared.chip.Sizes.{Sizes}
 use Rattle.segment.specs.Fact.{Fact, same?, range, cell, address, dataMode, stepping, mode, dimming, display, led, key, switches, readCount, position}
 use Rattle.standing.specs.View.{stands, coded}
-use Rattle.segment_knowledge.specs.declared.knowledge.Pointing.{Pointing}
-use Rattle.segment_knowledge.specs.declared.knowledge.Pointing.the-variants.{At, Invalid, Unknown as Anywhere}
+use Rattle.segment_knowledge.specs.declared.control.Pointing.{Pointing}
+use Rattle.segment_knowledge.specs.declared.control.Pointing.the-variants.{At, Invalid, Unknown as Anywhere}
 use Rattle.segment_knowledge.specs.declared.knowledge.Knowledge.{Knowledge}
+use Rattle.segment_knowledge.specs.declared.control.Control.{Control}
 
 abbrev pub points : Pointing → Of.Standing
 points (At a) = Of.known (suc (a .0))
 points Invalid = Of.known 0
 points Anywhere = Of.unknown
 
+-- The facts beside the cells, and what is known of each cell.
+abbrev pub cview : (ℕ → Of.Standing) → Control → Fact → Of.Standing
+cview cells c (cell i) = cells i
+cview cells c address = points (c .address)
+cview cells c dataMode = stands (c .«data»)
+cview cells c stepping = stands (c .stepping)
+cview cells c mode = stands (c .mode)
+cview cells c dimming = stands (c .dimming)
+cview cells c display = stands (c .display)
+cview cells c led = stands (c .led)
+cview cells c (key i) = coded (getD (c .keys) i 256)
+cview cells c switches = stands (c .switches)
+cview cells c readCount = stands (c .count)
+cview cells c position = stands (c .position)
+
+-- What is known of the cells of a row.
+abbrev pub held : List ℕ → ℕ → Of.Standing
+held cells i = coded (getD cells i 256)
+
 abbrev pub kview : Knowledge → Fact → Of.Standing
-kview k (cell i) = coded (getD (k .cells) i 256)
-kview k address = points (k .address)
-kview k dataMode = stands (k .«data»)
-kview k stepping = stands (k .stepping)
-kview k mode = stands (k .mode)
-kview k dimming = stands (k .dimming)
-kview k display = stands (k .display)
-kview k led = stands (k .led)
-kview k (key i) = coded (getD (k .keys) i 256)
-kview k switches = stands (k .switches)
-kview k readCount = stands (k .count)
-kview k position = stands (k .position)
+kview k = cview (held (k .cells)) (k .control)
 
 -- The knowledge r is what the rule makes of k, fact by fact.
 abbrev pub Knows : Sizes → Rule Fact Fact → Knowledge → Knowledge → Type 0

@@ -1,22 +1,21 @@
-// What two knowledges have in common.
-use crate::knowledge::Knowledge;
-use crate::knowledge::Pointing;
+// What two such have in common.
+use crate::control::Control;
+use crate::control::Pointing;
 use standing::both_standing;
 use standing::join_first;
 ghost use mathlib.Core.Path.{_≡_};
 ghost use lib.ListN.{length};
+ghost use Prim.Native.Nat.{ℕ};
+ghost use Rattle.knowing.specs.Standing.{Standing as Of·Standing};
 ghost use Rattle.knowing.specs.Know.{join};
-ghost use Rattle.segment_knowledge.specs.View.{kview, points};
+ghost use Rattle.segment_knowledge.specs.View.{cview, points};
 ghost use Rattle.standing.specs.Codes.{Joined};
 ghost use Rattle.knowing.specs.Ways.{Joins};
 ghost use Rattle.segment_knowledge.specs.Both.{BothSettings};
 
-pub fn both(a: Knowledge, b: Knowledge) -> Knowledge
-    ensures { λ r. ⌜ Joins kview a b r ⌝ }
+pub fn both(a: Control, b: Control) -> Control
+    ensures { λ r. ⌜ ((cells : ℕ → Of·Standing) → Joins (cview cells) a b r) ⌝ }
 {
-    let a_cells = a.cells;
-    let b_cells = b.cells;
-    let cells = both_cells(a_cells, b_cells);
     let a_keys = a.keys;
     let b_keys = b.keys;
     let keys = both_keys(a_keys, b_keys);
@@ -33,8 +32,7 @@ pub fn both(a: Knowledge, b: Knowledge) -> Knowledge
     let a_position = a.position;
     let b_position = b.position;
     let position = both_standing(a_position, b_position);
-    Knowledge {
-        cells,
+    Control {
         address,
         data,
         stepping,
@@ -45,7 +43,7 @@ pub fn both(a: Knowledge, b: Knowledge) -> Knowledge
 }
 
 // The other single facts of both; what else stands there is the first's, and `both` sets it anew.
-fn both_settings(a: Knowledge, b: Knowledge) -> Knowledge
+fn both_settings(a: Control, b: Control) -> Control
     ensures { λ r. ⌜ BothSettings a b r ⌝ }
 {
     let a_mode = a.mode;
@@ -66,7 +64,7 @@ fn both_settings(a: Knowledge, b: Knowledge) -> Knowledge
     let a_count = a.count;
     let b_count = b.count;
     let count = both_standing(a_count, b_count);
-    Knowledge {
+    Control {
         mode,
         dimming,
         display,
@@ -99,14 +97,6 @@ fn both_pointing(a: Pointing, b: Pointing) -> Pointing
         },
         Pointing::Unknown => Pointing::Unknown,
     }
-}
-
-fn both_cells(a: [u16; 36], b: [u16; 36]) -> [u16; 36]
-    ensures { λ r. ⌜ (Joined a b 36 r) × ((length a ≡ 36) × (length b ≡ 36)) ⌝ }
-{
-    let mut joined = a;
-    join_first(&mut joined, &b, 36);
-    joined
 }
 
 fn both_keys(a: [u16; 4], b: [u16; 4]) -> [u16; 4]

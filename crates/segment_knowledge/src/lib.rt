@@ -1,16 +1,19 @@
 // What is known of a PT6312 or PT6315 panel, as a value, and what two such knowledges have in common.
+mod control;
 mod join;
 mod knowledge;
 mod numbers;
 mod ranges;
 
+pub use control::Control;
+pub use control::Pointing;
+pub use control::at;
+pub use control::no_control;
+pub use control::stepping_by;
+pub use control::with_data;
 pub use join::both;
 pub use knowledge::Knowledge;
-pub use knowledge::Pointing;
-pub use knowledge::at;
 pub use knowledge::nothing_known;
-pub use knowledge::stepping_by;
-pub use knowledge::with_data;
 pub use numbers::FIRST;
 pub use numbers::FIXED;
 pub use numbers::IDLE;

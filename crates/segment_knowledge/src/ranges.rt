@@ -1,18 +1,19 @@
 // Number 2: whether every known value is in its fact's range. What the part lacks is never tested.
+use crate::control::Control;
+use crate::control::Pointing;
 use crate::knowledge::Knowledge;
-use crate::knowledge::Pointing;
 use segment::Family;
 use standing::Standing;
 use standing::all_within;
 use standing::both_hold;
 use standing::within;
 ghost use Prim.Native.Nat.{suc, _≤_};
-ghost use Rattle.knowing.specs.Standing.{Within, Sound};
+ghost use Rattle.knowing.specs.Standing.{Within, Sound, unknown};
 ghost use Rattle.segment.specs.Fact.{range, dataMode, switches};
 ghost use Rattle.segment.specs.Family.{sizes};
 ghost use Rattle.standing.specs.View.{stands, Tells};
 ghost use Rattle.standing.specs.Codes.{RowSound, Small};
-ghost use Rattle.segment_knowledge.specs.View.{kview, points};
+ghost use Rattle.segment_knowledge.specs.View.{kview, cview, points};
 ghost use Rattle.segment_knowledge.specs.Ranges.{SinglesSound, OthersSound};
 
 pub fn sound(family: Family, k: Knowledge) -> bool
@@ -20,12 +21,13 @@ pub fn sound(family: Family, k: Knowledge) -> bool
 {
     let sizes = family.sizes();
     let cells = k.cells;
-    let keys = k.keys;
+    let control = k.control;
+    let keys = control.keys;
     let memory = both_hold(
         cells_sound(cells, sizes.cells),
         keys_sound(keys, sizes.keys),
     );
-    both_hold(memory, singles_sound(family, k))
+    both_hold(memory, singles_sound(family, control))
 }
 
 fn cells_sound(cells: [u16; 36], count: u8) -> bool
@@ -43,33 +45,33 @@ fn keys_sound(keys: [u16; 4], count: u8) -> bool
 }
 
 // The settings, the switches and the position.
-fn singles_sound(family: Family, k: Knowledge) -> bool
-    ensures { λ r. ⌜ Tells r (SinglesSound (sizes family) (kview k)) ⌝ }
+fn singles_sound(family: Family, c: Control) -> bool
+    ensures { λ r. ⌜ Tells r (SinglesSound (sizes family) (cview (λ i. unknown) c)) ⌝ }
 {
     let sizes = family.sizes();
-    let address = k.address;
-    let data = k.data;
-    let switches = k.switches;
-    let stepping = k.stepping;
-    let mode = k.mode;
+    let address = c.address;
+    let data = c.data;
+    let switches = c.switches;
+    let stepping = c.stepping;
+    let mode = c.mode;
     let addressed = both_hold(pointing_sound(address, sizes.cells), within(stepping, 2));
     let commanded = both_hold(data_sound(family, data), mode_sound(mode, sizes.top));
     let first = both_hold(
         both_hold(addressed, commanded),
         switches_sound(family, switches),
     );
-    both_hold(first, others_sound(k))
+    both_hold(first, others_sound(c))
 }
 
 // The single facts whose ranges both parts share.
-fn others_sound(k: Knowledge) -> bool
-    ensures { λ r. ⌜ Tells r (OthersSound (kview k)) ⌝ }
+fn others_sound(c: Control) -> bool
+    ensures { λ r. ⌜ Tells r (OthersSound (cview (λ i. unknown) c)) ⌝ }
 {
-    let dimming = k.dimming;
-    let display = k.display;
-    let led = k.led;
-    let count = k.count;
-    let position = k.position;
+    let dimming = c.dimming;
+    let display = c.display;
+    let led = c.led;
+    let count = c.count;
+    let position = c.position;
     let shown = both_hold(
         both_hold(within(dimming, 8), within(display, 2)),
         within(led, 16),

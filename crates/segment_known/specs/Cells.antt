@@ -2,7 +2,7 @@
 use Prim.Native.Nat.{ℕ, suc, _+_, _*_, _<_, _≤_}
 use native.Mathlib.Omega.{arith}
 use native.Mathlib.Decide.{decLt}
-use mathlib.Core.Path.{_≡_, refl, ap, _∙_, subst}
+use mathlib.Core.Path.{_≡_, refl, ap, _∙_}
 use mathlib.Core.Bool.{Bool, true, false}
 use mathlib.Core.List.{List}
 use lib.ListN.{length, length-set, getD, set}
@@ -14,13 +14,22 @@ use Rattle.knowing.specs.Standing as Of
 use Rattle.knowing.specs.Know.{lifted, common}
 use Rattle.knowing.specs.Look.{look-unknown}
 use Rattle.segment.specs.declared.chip.Sizes.{Sizes}
+use Rattle.segment.specs.declared.chip.Family.{Family}
+use Rattle.segment.specs.Family.{sizes}
 use Rattle.segment.specs.Fact.{Fact, same?, range, cell, address, dataMode, stepping, mode, dimming, display, led, key, switches, readCount, position}
-use Rattle.segment.specs.Laws.{every, keys-apart}
+use Rattle.segment.specs.Laws.{every, room, keys-apart}
 use Rattle.segment.specs.Move.{sets, stored, keysLatched}
-use Rattle.segment_knowledge.specs.declared.knowledge.Knowledge.{Knowledge}
+use Rattle.knowing.specs.Ways as Ways
+use Rattle.segment_knowledge.specs.declared.control.Control.{Control}
+use Rattle.standing.specs.declared.change.Change.the-variants.{Meet}
+use Rattle.standing.specs.Change.{seen}
+use Rattle.standing.specs.Together.{among-or-not}
+use Rattle.segment_known.specs.declared.steps.Step.{Step}
+use Rattle.segment_known.specs.Step.{sview, Steps}
 use Rattle.standing.specs.View.{coded}
-use Rattle.segment_knowledge.specs.View.{kview, Knows}
-use Rattle.standing.specs.Codes.{bothCodes, Met, met-coded, coded-set}
+use Rattle.segment_knowledge.specs.View.{points, cview}
+use Rattle.standing.specs.Codes.{coded-set}
+use Rattle.segment_known.specs.Ways.{cells-room}
 use Rattle.segment_known.specs.Stored.{tag, ways, plain-stay, beyond-stay, cell-common, address-lost}
 
 -- The fourth key byte, which only some parts have.
@@ -34,40 +43,49 @@ fourth-set v false l b j small h e = go (same? (key j) (key 3))
     go (no n) = e j
 
 -- The whole of a byte stored at an unknown address.
-pub somewhere : (s : Sizes) (k r : Knowledge) (b : ℕ) → b < 256 → 1 < s .cells → kview k address ≡ Of.unknown → Met (k .cells) 0 1 b (s .cells) (r .cells)
-    → ((f : Fact) → 1 ≤ tag f → kview r f ≡ kview k f) → Knows s (look address (stored s b)) k r
+pub somewhere : (s : Sizes) (c : Control) (b : ℕ) → 1 < s .cells → points (c .address) ≡ Of.unknown → (cells : ℕ → Of.Standing)
+    → Ways.Knows (cview cells) (sview cells) same? (range s) (look address (stored s b)) c (record { control = c; change = Meet (record { 0 = 0 }) 1 (s .cells) b })
 unfolding tag
-somewhere s k r b small room u m same f =
-    look-unknown same? (range s) address (stored s b) (kview k) f (kview r f) u
-    (every (λ (f : Fact). kview r f ≡ common (suc (s .cells)) (ways s b (kview k) f))
-    (λ i. at i (decLt i (s .cells)))
-    (same address (omega arith) ∙ u ∙ address-lost s b (kview k) room)
+somewhere s c b room u cells f =
+    look-unknown same? (range s) address (stored s b) (cview cells c) f _ u
+    (every (λ (f : Fact). sview cells r f ≡ common (suc (s .cells)) (ways s b (cview cells c) f))
+    at
+    (u ∙ address-lost s b (cview cells c) room)
     (plain dataMode (omega arith)) (plain stepping (omega arith)) (plain mode (omega arith)) (plain dimming (omega arith)) (plain display (omega arith)) (plain led (omega arith))
     (λ i. plain (key i) (omega arith)) (plain switches (omega arith)) (plain readCount (omega arith)) (plain position (omega arith)) f)
   where
-    plain : (f : Fact) → 2 ≤ tag f → kview r f ≡ common (suc (s .cells)) (ways s b (kview k) f)
-    plain f h = same f (omega arith) ∙ plain-stay s b (kview k) f h
+    r : Step
+    r = record { control = c; change = Meet (record { 0 = 0 }) 1 (s .cells) b }
 
-    at : (i : ℕ) → Dec (i < s .cells) → coded (getD (r .cells) i 256) ≡ common (suc (s .cells)) (ways s b (kview k) (cell i))
-    at i (yes h) =
-        let e : 0 + 1 * i ≡ i = omega arith in
-        ap coded (subst (λ (n : ℕ). getD (r .cells) n 256 ≡ bothCodes (getD (k .cells) n 256) b) e (m .here i h)) ∙ met-coded (getD (k .cells) i 256) b small
-        ∙ cell-common s b (kview k) i h
-    at i (no h) = ap coded (m .rest i (λ n l e. absurd (omega arith))) ∙ beyond-stay s b (kview k) i (omega arith)
+    plain : (f : Fact) → 2 ≤ tag f → cview cells c f ≡ common (suc (s .cells)) (ways s b (cview cells c) f)
+    plain f h = plain-stay s b (cview cells c) f h
+
+    past : (i : ℕ) → ((j : ℕ) → j < s .cells → ¬ (i ≡ 0 + 1 * j)) → Dec (i < s .cells) → s .cells ≤ i
+    past i n (yes h) = absurd (n i h (omega arith))
+    past i n (no h) = omega arith
+
+    at : (i : ℕ) → seen (Meet (record { 0 = 0 }) 1 (s .cells) b) i (cells i) ≡ common (suc (s .cells)) (ways s b (cview cells c) (cell i))
+    at i =
+        among-or-not 0 1 (s .cells) i _ _ _ (λ j h p. cell-common s b (cview cells c) i (omega arith))
+        (λ n. beyond-stay s b (cview cells c) i (past i n (decLt i (s .cells))))
+
+pub somewhere-steps : (p : Family) (c : Control) (b : ℕ) → points (c .address) ≡ Of.unknown
+    → Steps (sizes p) (look address (stored (sizes p) b)) c (record { control = c; change = Meet (record { 0 = 0 }) 1 (sizes p .cells) b })
+somewhere-steps p c b u = record { knows = λ cells. somewhere (sizes p) c b (cells-room p) u cells; inside = (omega arith, λ j h. omega (arith, room p .0)) }
 
 -- The key bytes after they are latched.
-pub keys-coded : (s : Sizes) (k : Knowledge) (k0 k1 k2 k3 : ℕ) (rest new : List ℕ) (i : ℕ) → k0 < 256 → k1 < 256 → k2 < 256 → k3 < 256
-    → rest ≡ whether (ltb 3 (s .keys)) (set (k .keys) 3 k3) (k .keys) → length (k .keys) ≡ 4 → new ≡ set (set (set rest 2 k2) 1 k1) 0 k0
-    → coded (getD new i 256) ≡ lifted (kview k) (keysLatched s k0 k1 k2 k3 (key i))
-keys-coded s k k0 k1 k2 k3 rest new i b0 b1 b2 b3 r n e =
+pub keys-coded : (s : Sizes) (cells : ℕ → Of.Standing) (c : Control) (k0 k1 k2 k3 : ℕ) (rest new : List ℕ) (i : ℕ) → k0 < 256 → k1 < 256 → k2 < 256 → k3 < 256
+    → rest ≡ whether (ltb 3 (s .keys)) (set (c .keys) 3 k3) (c .keys) → length (c .keys) ≡ 4 → new ≡ set (set (set rest 2 k2) 1 k1) 0 k0
+    → coded (getD new i 256) ≡ lifted (cview cells c) (keysLatched s k0 k1 k2 k3 (key i))
+keys-coded s cells c k0 k1 k2 k3 rest new i b0 b1 b2 b3 r n e =
     ap (λ (l : List ℕ). coded (getD l i 256)) e
-    ∙ coded-set same? key keys-apart (kview k) (sets (key 1) k1 (sets (key 2) k2 (change same? (key 3) (whether (ltb 3 (s .keys)) (value k3) (copy (key 3))) keep))) (set (set rest 2 k2) 1 k1) 0 k0 i b0 (rw (length-set (set rest 2 k2) 1 k1, length-set rest 2 k2, size) (omega arith))
-    (coded-set same? key keys-apart (kview k) (sets (key 2) k2 (change same? (key 3) (whether (ltb 3 (s .keys)) (value k3) (copy (key 3))) keep)) (set rest 2 k2) 1 k1 i b1 (rw (length-set rest 2 k2, size) (omega arith))
-    (coded-set same? key keys-apart (kview k) (change same? (key 3) (whether (ltb 3 (s .keys)) (value k3) (copy (key 3))) keep) rest 2 k2 i b2 (rw size (omega arith))
-    (ap (λ (l : List ℕ). coded (getD l i 256)) r ∙ fourth-set (kview k) (ltb 3 (s .keys)) (k .keys) k3 i b3 (omega (arith, n)) (λ j. refl))))
+    ∙ coded-set same? key keys-apart (cview cells c) (sets (key 1) k1 (sets (key 2) k2 (change same? (key 3) (whether (ltb 3 (s .keys)) (value k3) (copy (key 3))) keep))) (set (set rest 2 k2) 1 k1) 0 k0 i b0 (rw (length-set (set rest 2 k2) 1 k1, length-set rest 2 k2, size) (omega arith))
+    (coded-set same? key keys-apart (cview cells c) (sets (key 2) k2 (change same? (key 3) (whether (ltb 3 (s .keys)) (value k3) (copy (key 3))) keep)) (set rest 2 k2) 1 k1 i b1 (rw (length-set rest 2 k2, size) (omega arith))
+    (coded-set same? key keys-apart (cview cells c) (change same? (key 3) (whether (ltb 3 (s .keys)) (value k3) (copy (key 3))) keep) rest 2 k2 i b2 (rw size (omega arith))
+    (ap (λ (l : List ℕ). coded (getD l i 256)) r ∙ fourth-set (cview cells c) (ltb 3 (s .keys)) (c .keys) k3 i b3 (omega (arith, n)) (λ j. refl))))
   where
-    by : (t : Bool) → length (whether t (set (k .keys) 3 k3) (k .keys)) ≡ 4
-    by true = length-set (k .keys) 3 k3 ∙ n
+    by : (t : Bool) → length (whether t (set (c .keys) 3 k3) (c .keys)) ≡ 4
+    by true = length-set (c .keys) 3 k3 ∙ n
     by false = n
 
     size : length rest ≡ 4

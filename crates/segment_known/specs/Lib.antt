@@ -1,3 +1,8 @@
+pub mod Step
+pub mod StepLaws
+pub mod StepWays
 pub mod Ways
 pub mod Stored
 pub mod Cells
+pub mod Moved
+pub mod Everyday

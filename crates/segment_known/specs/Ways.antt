@@ -11,6 +11,7 @@ use Rattle.knowing.specs.Standing as Of
 use Rattle.knowing.specs.Know.{lifted, learn, join, common, know}
 use Rattle.knowing.specs.Join.{common-same, common-two, common-apart}
 use Rattle.knowing.specs.Look.{look-unknown}
+use Rattle.knowing.specs.Ways as Ways
 use Rattle.knowing.specs.Ways.{Way, Becomes, Joins}
 use Rattle.segment.specs.declared.chip.Sizes.{Sizes}
 use Rattle.segment.specs.declared.chip.Position.the-variants.{Ignoring}
@@ -26,8 +27,10 @@ use Rattle.segment.specs.declared.chip.Family.the-variants.{Pt6312, Pt6315}
 use Rattle.segment.specs.Fact.{Fact, same?, range, cell, address, dataMode, stepping, mode, dimming, display, led, key, switches, readCount, position}
 use Rattle.segment.specs.Laws.{every}
 use Rattle.segment.specs.Move.{sets, then, nothing, toMode, counted}
-use Rattle.segment_knowledge.specs.declared.knowledge.Knowledge.{Knowledge}
-use Rattle.segment_knowledge.specs.View.{kview, Knows}
+use Rattle.standing.specs.View.{stands}
+use Rattle.segment_knowledge.specs.declared.control.Control.{Control as Beside}
+use Rattle.segment_knowledge.specs.View.{cview}
+use Rattle.segment_known.specs.Step.{Keeps}
 
 -- The choices that no number of the code's match names.
 pub other-in : (a b : Rule Fact Fact) (n : ℕ) → ¬ (n ≡ 1) → ¬ (n ≡ 2) → of4 nothing a b nothing n ≡ nothing
@@ -64,18 +67,18 @@ other-step a b zero p = absurd (p refl)
 other-step a b (suc n) p = refl
 
 -- An unknown read count stays unknown, and nothing else changes.
-pub count-unknown : (s : Sizes) (k : Knowledge) → kview k readCount ≡ Of.unknown → Knows s (look readCount counted) k k
-count-unknown s k u f =
-    look-unknown same? (range s) readCount counted (kview k) f (kview k f) u
-    (every (λ (f : Fact). kview k f ≡ common 5 (λ (w : ℕ). know same? (range s) (counted w) (learn same? readCount w (kview k)) f))
+pub count-unknown : (s : Sizes) (c : Beside) → stands (c .count) ≡ Of.unknown → Keeps s (look readCount counted) c c
+count-unknown s c u cells f =
+    look-unknown same? (range s) readCount counted (cview cells c) f (cview cells c f) u
+    (every (λ (f : Fact). cview cells c f ≡ common 5 (λ (w : ℕ). know same? (range s) (counted w) (learn same? readCount w (cview cells c)) f))
     (λ i. same (cell i) (λ w. refl)) (same address (λ w. refl)) (same dataMode (λ w. refl)) (same stepping (λ w. refl)) (same mode (λ w. refl)) (same dimming (λ w. refl)) (same display (λ w. refl)) (same led (λ w. refl))
     (λ i. same (key i) (λ w. refl)) (same switches (λ w. refl))
     (u ∙ sym (common-apart 5 _ 0 1 1 2 (omega arith) (omega arith) (λ e. omega arith) refl refl))
     (same position (λ w. refl)) f)
   where
-    same : (f : Fact) → ((w : ℕ) → know same? (range s) (counted w) (learn same? readCount w (kview k)) f ≡ kview k f)
-        → kview k f ≡ common 5 (λ (w : ℕ). know same? (range s) (counted w) (learn same? readCount w (kview k)) f)
-    same f h = sym (common-same 5 _ (kview k f) (omega arith) (λ w l. h w))
+    same : (f : Fact) → ((w : ℕ) → know same? (range s) (counted w) (learn same? readCount w (cview cells c)) f ≡ cview cells c f)
+        → cview cells c f ≡ common 5 (λ (w : ℕ). know same? (range s) (counted w) (learn same? readCount w (cview cells c)) f)
+    same f h = sym (common-same 5 _ (cview cells c f) (omega arith) (λ w l. h w))
 
 -- The mode that a command names, if it is a mode command.
 abbrev codeOf : Command → ℕ
@@ -107,25 +110,26 @@ pub mode-small : (s : Sizes) (b m : ℕ) → Mode m ≡ commandOf s b → m ≤ 
 mode-small s b m e = subst⁻¹ (λ (c : Command). codeOf c ≤ s .top) e (small s b)
 
 -- An unknown mode: it may be the one that the byte names, and then only the position changes, or another, and then the display goes off too.
-pub mode-unknown : (s : Sizes) (k r a b : Knowledge) (m : ℕ) → m ≤ s .top → 1 ≤ s .top → kview k mode ≡ Of.unknown → Joins kview a b r
-    → Way kview kview same? (range s) (gives (then Ignoring)) k mode m a → Becomes kview (sets mode m (sets display (shows Off) (then Ignoring))) k b → Knows s (look mode (toMode m)) k r
-mode-unknown s k r a b m small room u e p q f =
-    look-unknown same? (range s) mode (toMode m) (kview k) f (kview r f) u
+pub mode-unknown : (s : Sizes) (c r a b : Beside) (m : ℕ) → m ≤ s .top → 1 ≤ s .top → stands (c .mode) ≡ Of.unknown → (cells : ℕ → Of.Standing) → Joins (cview cells) a b r
+    → Way (cview cells) (cview cells) same? (range s) (gives (then Ignoring)) c mode m a → Becomes (cview cells) (sets mode m (sets display (shows Off) (then Ignoring))) c b
+    → Ways.Knows (cview cells) (cview cells) same? (range s) (look mode (toMode m)) c r
+mode-unknown s c r a b m small room u cells e p q f =
+    look-unknown same? (range s) mode (toMode m) (cview cells c) f (cview cells r f) u
     (e f ∙ sym (by (ℕ-discrete m 0)))
   where
-    here : know same? (range s) (toMode m m) (learn same? mode m (kview k)) f ≡ kview a f
+    here : know same? (range s) (toMode m m) (learn same? mode m (cview cells c)) f ≡ cview cells a f
     here = rw (eq-eqb m m refl) (sym (p f))
 
-    there : (w : ℕ) → ¬ (w ≡ m) → know same? (range s) (toMode m w) (learn same? mode w (kview k)) f ≡ kview b f
+    there : (w : ℕ) → ¬ (w ≡ m) → know same? (range s) (toMode m w) (learn same? mode w (cview cells c)) f ≡ cview cells b f
     there w d =
         rw (ne-eqb w m d)
-        (every (λ (f : Fact). lifted (learn same? mode w (kview k)) (sets mode m (sets display (shows Off) (then Ignoring)) f) ≡ kview b f)
+        (every (λ (f : Fact). lifted (learn same? mode w (cview cells c)) (sets mode m (sets display (shows Off) (then Ignoring)) f) ≡ cview cells b f)
         (λ i. sym (q (cell i))) (sym (q address)) (sym (q dataMode)) (sym (q stepping)) (sym (q mode)) (sym (q dimming)) (sym (q display)) (sym (q led)) (λ i. sym (q (key i))) (sym (q switches))
         (sym (q readCount)) (sym (q position)) f)
 
-    by : Dec (m ≡ 0) → common (suc (s .top)) (λ (w : ℕ). know same? (range s) (toMode m w) (learn same? mode w (kview k)) f) ≡ join (kview a f) (kview b f)
-    by (yes z) = common-two (suc (s .top)) _ (kview a f) (kview b f) m 1 (omega arith) (omega arith) (λ o. omega arith) here (λ w l d. there w d)
-    by (no z) = common-two (suc (s .top)) _ (kview a f) (kview b f) m 0 (omega arith) (omega arith) (λ o. z (sym o)) here (λ w l d. there w d)
+    by : Dec (m ≡ 0) → common (suc (s .top)) (λ (w : ℕ). know same? (range s) (toMode m w) (learn same? mode w (cview cells c)) f) ≡ join (cview cells a f) (cview cells b f)
+    by (yes z) = common-two (suc (s .top)) _ (cview cells a f) (cview cells b f) m 1 (omega arith) (omega arith) (λ o. omega arith) here (λ w l d. there w d)
+    by (no z) = common-two (suc (s .top)) _ (cview cells a f) (cview cells b f) m 0 (omega arith) (omega arith) (λ o. z (sym o)) here (λ w l d. there w d)
 
 -- Every part has more than one mode.
 pub top-room : (p : Family) → 1 ≤ sizes p .top

@@ -1,12 +1,15 @@
 // What a byte clocked in makes of a knowledge.
 use crate::commanded::first_in;
+use crate::steps::Step;
+use crate::steps::both_steps;
+use crate::steps::kept;
 use segment::Family;
+use segment_knowledge::Control;
 use segment_knowledge::FIRST;
 use segment_knowledge::FIXED;
 use segment_knowledge::IDLE;
 use segment_knowledge::IGNORING;
 use segment_knowledge::INCREMENT;
-use segment_knowledge::Knowledge;
 use segment_knowledge::OPEN;
 use segment_knowledge::Pointing;
 use segment_knowledge::READ_KEYS;
@@ -14,137 +17,140 @@ use segment_knowledge::READ_SWITCHES;
 use segment_knowledge::WRITE_DISPLAY;
 use segment_knowledge::WRITE_LED;
 use segment_knowledge::at;
-use segment_knowledge::both;
 use segment_knowledge::stepping_by;
 use segment_knowledge::with_data;
+use standing::Change;
 use standing::Standing;
-use standing::meet;
 use terms::Address;
 ghost use mathlib.Core.Path.{_≡_};
-ghost use Prim.Native.Nat.{_%_, _<_, _≤_};
-ghost use lib.ListN.{length, set};
-ghost use Rattle.rules.specs.Rule.{look};
+ghost use Prim.Native.Nat.{_%_, _<_};
+ghost use Rattle.rules.specs.Rule.{gives, look};
 ghost use Rattle.rules.specs.Change.{keep};
-ghost use Rattle.knowing.specs.Standing.{known, unknown};
-ghost use Rattle.knowing.specs.Ways.{Becomes};
-ghost use Rattle.standing.specs.Codes.{Met};
+ghost use Rattle.knowing.specs.Standing.{known};
+ghost use Rattle.standing.specs.declared.change.Change.the-variants.{Put};
 ghost use Rattle.segment.specs.Fact.{address, dataMode, stepping, led, position};
 ghost use Rattle.segment.specs.Family.{sizes};
 ghost use Rattle.segment.specs.Value.{pointer};
 ghost use Rattle.segment.specs.Move.{sets, after, storedAt, stored, written, byteIn};
-ghost use Rattle.segment_knowledge.specs.View.{kview, Knows, points};
+ghost use Rattle.segment_knowledge.specs.View.{points};
+ghost use Rattle.segment_known.specs.Step.{Steps, Keeps};
 
-pub fn byte_in(family: Family, k: Knowledge, byte: u8) -> Knowledge
-    ensures { λ r. ⌜ Knows (sizes family) (look position (byteIn (sizes family) byte)) k r ⌝ }
+pub fn byte_in(family: Family, c: Control, byte: u8) -> Step
+    ensures { λ r. ⌜ Steps (sizes family) (look position (byteIn (sizes family) byte)) c r ⌝ }
 {
-    let position = k.position;
+    let position = c.position;
     match position {
-        Standing::Known(place) => in_at(family, k, byte, place),
+        Standing::Known(place) => in_at(family, c, byte, place),
         Standing::Unknown => {
-            let first = first_in(family, at(k, FIRST), byte);
-            let open = open_in(family, at(k, OPEN), byte);
-            both(both(both(at(k, IDLE), first), open), at(k, IGNORING))
+            let first = first_in(family, at(c, FIRST), byte);
+            let open = open_in(family, at(c, OPEN), byte);
+            let begun = both_steps(kept(at(c, IDLE)), first);
+            both_steps(both_steps(begun, open), kept(at(c, IGNORING)))
         }
     }
 }
 
-fn in_at(family: Family, k: Knowledge, byte: u8, place: u8) -> Knowledge
-    ensures { λ r. ⌜ Knows (sizes family) (byteIn (sizes family) byte place) k r ⌝ }
+fn in_at(family: Family, c: Control, byte: u8, place: u8) -> Step
+    ensures { λ r. ⌜ Steps (sizes family) (byteIn (sizes family) byte place) c r ⌝ }
 {
     match place {
-        FIRST => first_in(family, k, byte),
-        OPEN => open_in(family, k, byte),
-        _ => k,
+        FIRST => first_in(family, c, byte),
+        OPEN => open_in(family, c, byte),
+        _ => kept(c),
     }
 }
 
-fn open_in(family: Family, k: Knowledge, byte: u8) -> Knowledge
-    ensures { λ r. ⌜ Knows (sizes family) (look dataMode (written (sizes family) byte)) k r ⌝ }
+fn open_in(family: Family, c: Control, byte: u8) -> Step
+    ensures { λ r. ⌜ Steps (sizes family) (look dataMode (written (sizes family) byte)) c r ⌝ }
 {
-    let data = k.data;
+    let data = c.data;
     match data {
-        Standing::Known(mode) => written_in(family, k, byte, mode),
+        Standing::Known(mode) => written_in(family, c, byte, mode),
         Standing::Unknown => {
-            let display = stored_by(family, with_data(k, WRITE_DISPLAY), byte);
-            let led = led_in(with_data(k, WRITE_LED), byte);
-            let three = both(both(display, led), with_data(k, READ_KEYS));
+            let display = stored_by(family, with_data(c, WRITE_DISPLAY), byte);
+            let led = kept(led_in(family, with_data(c, WRITE_LED), byte));
+            let three = both_steps(both_steps(display, led), kept(with_data(c, READ_KEYS)));
             match family {
-                Family::Pt6312 => both(three, with_data(k, READ_SWITCHES)),
+                Family::Pt6312 => both_steps(three, kept(with_data(c, READ_SWITCHES))),
                 Family::Pt6315 => three,
             }
         }
     }
 }
 
-fn written_in(family: Family, k: Knowledge, byte: u8, mode: u8) -> Knowledge
-    ensures { λ r. ⌜ Knows (sizes family) (written (sizes family) byte mode) k r ⌝ }
+fn written_in(family: Family, c: Control, byte: u8, mode: u8) -> Step
+    ensures { λ r. ⌜ Steps (sizes family) (written (sizes family) byte mode) c r ⌝ }
 {
     match mode {
-        WRITE_DISPLAY => stored_by(family, k, byte),
-        WRITE_LED => led_in(k, byte),
-        _ => k,
+        WRITE_DISPLAY => stored_by(family, c, byte),
+        WRITE_LED => kept(led_in(family, c, byte)),
+        _ => kept(c),
     }
 }
 
-fn led_in(k: Knowledge, byte: u8) -> Knowledge
-    ensures { λ r. ⌜ Becomes kview (sets led (byte % 16) keep) k r ⌝ }
+fn led_in(family: Family, c: Control, byte: u8) -> Control
+    ensures { λ r. ⌜ Keeps (sizes family) (gives (sets led (byte % 16) keep)) c r ⌝ }
 {
-    Knowledge {
+    Control {
         led: Standing::Known(byte % 16),
-        ..k
+        ..c
     }
 }
 
 // A data byte goes to the address.
-fn stored_by(family: Family, k: Knowledge, byte: u8) -> Knowledge
-    ensures { λ r. ⌜ Knows (sizes family) (look address (stored (sizes family) byte)) k r ⌝ }
+fn stored_by(family: Family, c: Control, byte: u8) -> Step
+    ensures { λ r. ⌜ Steps (sizes family) (look address (stored (sizes family) byte)) c r ⌝ }
 {
-    let address = k.address;
+    let address = c.address;
     match address {
         Pointing::At(cell) => {
             let sizes = family.sizes();
             if cell.0 < sizes.cells {
-                stored_at(family, k, byte, cell)
+                stored_at(family, c, byte, cell)
             } else {
-                k
+                kept(c)
             }
         }
-        Pointing::Invalid => k,
-        Pointing::Unknown => stored_somewhere(family, k, byte),
-    }
-}
-
-fn stored_at(family: Family, k: Knowledge, byte: u8, cell: Address) -> Knowledge
-    requires { ⌜ cell .0 < sizes family .cells ⌝ }
-    ensures { λ r. ⌜ Knows (sizes family) (look stepping (storedAt (sizes family) byte (cell .0))) k r ⌝ }
-{
-    let stepping = k.stepping;
-    match stepping {
-        Standing::Known(step) => stored_so(family, k, byte, cell, step),
-        Standing::Unknown => {
-            let increment = stored_so(family, stepping_by(k, INCREMENT), byte, cell, INCREMENT);
-            let fixed = stored_so(family, stepping_by(k, FIXED), byte, cell, FIXED);
-            both(increment, fixed)
+        Pointing::Invalid => kept(c),
+        Pointing::Unknown => {
+            let sizes = family.sizes();
+            Step {
+                control: c,
+                change: Change::Meet(Address(0), 1, sizes.cells, byte),
+            }
         }
     }
 }
 
-fn stored_so(family: Family, k: Knowledge, byte: u8, cell: Address, step: u8) -> Knowledge
+fn stored_at(family: Family, c: Control, byte: u8, cell: Address) -> Step
     requires { ⌜ cell .0 < sizes family .cells ⌝ }
-    ensures { λ r. ⌜ Knows (sizes family) (storedAt (sizes family) byte (cell .0) step) k r ⌝ }
+    ensures { λ r. ⌜ Steps (sizes family) (look stepping (storedAt (sizes family) byte (cell .0))) c r ⌝ }
 {
-    let old = k.cells;
-    let cells = cell_in(old, cell, byte);
+    let stepping = c.stepping;
+    match stepping {
+        Standing::Known(step) => stored_so(family, c, byte, cell, step),
+        Standing::Unknown => {
+            let increment = stored_so(family, stepping_by(c, INCREMENT), byte, cell, INCREMENT);
+            let fixed = stored_so(family, stepping_by(c, FIXED), byte, cell, FIXED);
+            both_steps(increment, fixed)
+        }
+    }
+}
+
+fn stored_so(family: Family, c: Control, byte: u8, cell: Address, step: u8) -> Step
+    requires { ⌜ cell .0 < sizes family .cells ⌝ }
+    ensures { λ r. ⌜ (Steps (sizes family) (storedAt (sizes family) byte (cell .0) step) c r) × (r .change ≡ Put cell byte) ⌝ }
+{
+    let change = Change::Put(cell, byte);
     match step {
         INCREMENT => {
             let address = behind(family, cell);
-            Knowledge {
-                cells,
-                address,
-                ..k
+            Step {
+                control: Control { address, ..c },
+                change,
             }
         }
-        _ => Knowledge { cells, ..k },
+        _ => Step { control: c, change },
     }
 }
 
@@ -159,36 +165,4 @@ fn behind(family: Family, cell: Address) -> Pointing
     } else {
         Pointing::Invalid
     }
-}
-
-// The cells with one of them known.
-fn cell_in(cells: [u16; 36], cell: Address, byte: u8) -> [u16; 36]
-    requires { ⌜ cell .0 < 36 ⌝ }
-    ensures { λ r. ⌜ (r ≡ set cells (cell .0) byte) × (length cells ≡ 36) ⌝ }
-{
-    let mut new = cells;
-    let i = cell.0 as usize;
-    new[i] = byte as u16;
-    new
-}
-
-// A byte stored at an unknown address: any cell may be the one, so only those that hold the byte already stay known.
-fn stored_somewhere(family: Family, k: Knowledge, byte: u8) -> Knowledge
-    requires { ⌜ kview k address ≡ unknown ⌝ }
-    ensures { λ r. ⌜ Knows (sizes family) (look address (stored (sizes family) byte)) k r ⌝ }
-{
-    let sizes = family.sizes();
-    let old = k.cells;
-    let cells = cells_meet(old, sizes.cells, byte);
-    Knowledge { cells, ..k }
-}
-
-// The first `count` cells keep what they have in common with the byte.
-fn cells_meet(cells: [u16; 36], count: u8, byte: u8) -> [u16; 36]
-    requires { ⌜ count ≤ 36 ⌝ }
-    ensures { λ r. ⌜ Met cells 0 1 byte count r ⌝ }
-{
-    let mut new = cells;
-    meet(&mut new, 0, 1, count as usize, byte);
-    new
 }

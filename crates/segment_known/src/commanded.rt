@@ -1,4 +1,7 @@
 // What a first byte makes of a knowledge.
+use crate::steps::Step;
+use crate::steps::forgotten;
+use crate::steps::kept;
 use segment::Command;
 use segment::Data;
 use segment::Display;
@@ -6,10 +9,10 @@ use segment::Family;
 use segment::Pointer;
 use segment::Stepping;
 use segment::command_of;
+use segment_knowledge::Control;
 use segment_knowledge::FIXED;
 use segment_knowledge::IGNORING;
 use segment_knowledge::INCREMENT;
-use segment_knowledge::Knowledge;
 use segment_knowledge::OFF;
 use segment_knowledge::ON;
 use segment_knowledge::OPEN;
@@ -29,49 +32,51 @@ ghost use Rattle.segment.specs.Fact.{mode};
 ghost use Rattle.segment.specs.Family.{sizes};
 ghost use Rattle.segment.specs.Move.{toMode, tested, commanded};
 ghost use Rattle.segment.specs.Value.{pointer, data-mode, steps, shows};
-ghost use Rattle.segment_knowledge.specs.View.{Knows, points};
+ghost use Rattle.segment_knowledge.specs.View.{points};
+ghost use Rattle.standing.specs.Change.{Plain};
+ghost use Rattle.segment_known.specs.Step.{Steps, Keeps, Forgets};
 ghost use Rattle.knowing.specs.Standing.{known};
 
-pub fn first_in(family: Family, k: Knowledge, byte: u8) -> Knowledge
-    ensures { λ r. ⌜ Knows (sizes family) (commanded (commandOf (sizes family) byte)) k r ⌝ }
+pub fn first_in(family: Family, c: Control, byte: u8) -> Step
+    ensures { λ r. ⌜ (Steps (sizes family) (commanded (commandOf (sizes family) byte)) c r) × (Plain (r .change)) ⌝ }
 {
     let command = command_of(family, byte);
     match command {
-        Command::Mode(code) => to_mode(family, k, code),
-        Command::Test => in_test(family, k),
-        Command::Setting(data, stepping) => at(
-            Knowledge {
+        Command::Mode(code) => kept(to_mode(family, c, code)),
+        Command::Test => forgotten(in_test(family, c)),
+        Command::Setting(data, stepping) => kept(at(
+            Control {
                 data: Standing::Known(data_number(data)),
                 stepping: Standing::Known(step_number(stepping)),
                 count: Standing::Known(0),
-                ..k
+                ..c
             },
             OPEN,
-        ),
-        Command::AnySetting(stepping) => at(
-            Knowledge {
+        )),
+        Command::AnySetting(stepping) => kept(at(
+            Control {
                 data: Standing::Unknown,
                 stepping: Standing::Known(step_number(stepping)),
                 count: Standing::Known(0),
-                ..k
+                ..c
             },
             OPEN,
-        ),
-        Command::Control(dimming, display) => at(
-            Knowledge {
+        )),
+        Command::Control(dimming, display) => kept(at(
+            Control {
                 dimming: Standing::Known(dimming),
                 display: Standing::Known(display_number(display)),
-                ..k
+                ..c
             },
             IGNORING,
-        ),
-        Command::Start(address) => at(
-            Knowledge {
+        )),
+        Command::Start(address) => kept(at(
+            Control {
                 address: known_pointing(address),
-                ..k
+                ..c
             },
             OPEN,
-        ),
+        )),
     }
 }
 
@@ -114,26 +119,26 @@ fn known_pointing(address: Pointer) -> Pointing
 }
 
 // An unknown mode may be the one that the byte names, or any other.
-fn to_mode(family: Family, k: Knowledge, code: u8) -> Knowledge
+fn to_mode(family: Family, c: Control, code: u8) -> Control
     requires { ⌜ code ≤ sizes family .top ⌝ }
-    ensures { λ r. ⌜ Knows (sizes family) (look mode (toMode code)) k r ⌝ }
+    ensures { λ r. ⌜ Keeps (sizes family) (look mode (toMode code)) c r ⌝ }
 {
     let new = at(
-        Knowledge {
+        Control {
             mode: Standing::Known(code),
             display: Standing::Known(OFF),
-            ..k
+            ..c
         },
         IGNORING,
     );
-    let old = k.mode;
+    let old = c.mode;
     match old {
-        Standing::Known(mode) => { if mode == code { at(k, IGNORING) } else { new } }
+        Standing::Known(mode) => { if mode == code { at(c, IGNORING) } else { new } }
         Standing::Unknown => {
             let kept = at(
-                Knowledge {
+                Control {
                     mode: Standing::Known(code),
-                    ..k
+                    ..c
                 },
                 IGNORING,
             );
@@ -142,11 +147,10 @@ fn to_mode(family: Family, k: Knowledge, code: u8) -> Knowledge
     }
 }
 
-fn in_test(family: Family, k: Knowledge) -> Knowledge
-    ensures { λ r. ⌜ Knows (sizes family) (gives tested) k r ⌝ }
+fn in_test(family: Family, c: Control) -> Control
+    ensures { λ r. ⌜ Forgets (sizes family) (gives tested) c r ⌝ }
 {
-    Knowledge {
-        cells: [256; 36],
+    Control {
         address: Pointing::Unknown,
         data: Standing::Unknown,
         stepping: Standing::Unknown,
@@ -156,6 +160,6 @@ fn in_test(family: Family, k: Knowledge) -> Knowledge
         led: Standing::Unknown,
         count: Standing::Unknown,
         position: Standing::Known(IGNORING),
-        ..k
+        ..c
     }
 }

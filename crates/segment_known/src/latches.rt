@@ -1,6 +1,6 @@
 // What latched keys and switches make of a knowledge.
 use segment::Family;
-use segment_knowledge::Knowledge;
+use segment_knowledge::Control;
 use standing::Standing;
 ghost use mathlib.Core.Path.{_≡_};
 ghost use Prim.Native.Nat.{_<_};
@@ -10,15 +10,15 @@ ghost use Rattle.rules.specs.Choice.{whether};
 ghost use Rattle.rules.specs.Rule.{gives};
 ghost use Rattle.segment.specs.Family.{sizes};
 ghost use Rattle.segment.specs.Move.{keysLatched, switchesLatched};
-ghost use Rattle.segment_knowledge.specs.View.{Knows};
+ghost use Rattle.segment_known.specs.Step.{Keeps};
 
-pub fn keys_latched(family: Family, k: Knowledge, k0: u8, k1: u8, k2: u8, k3: u8) -> Knowledge
-    ensures { λ r. ⌜ Knows (sizes family) (gives (keysLatched (sizes family) k0 k1 k2 k3)) k r ⌝ }
+pub fn keys_latched(family: Family, c: Control, k0: u8, k1: u8, k2: u8, k3: u8) -> Control
+    ensures { λ r. ⌜ Keeps (sizes family) (gives (keysLatched (sizes family) k0 k1 k2 k3)) c r ⌝ }
 {
-    let old = k.keys;
+    let old = c.keys;
     let rest = fourth_in(family, old, k3);
     let keys = key_in(key_in(key_in(rest, 2, k2), 1, k1), 0, k0);
-    Knowledge { keys, ..k }
+    Control { keys, ..c }
 }
 
 // The fourth key byte is stored where the part has one.
@@ -41,14 +41,14 @@ fn key_in(keys: [u16; 4], number: usize, byte: u8) -> [u16; 4]
     new
 }
 
-pub fn switches_latched(family: Family, k: Knowledge, value: u8) -> Knowledge
-    ensures { λ r. ⌜ Knows (sizes family) (gives (switchesLatched (sizes family) value)) k r ⌝ }
+pub fn switches_latched(family: Family, c: Control, value: u8) -> Control
+    ensures { λ r. ⌜ Keeps (sizes family) (gives (switchesLatched (sizes family) value)) c r ⌝ }
 {
     match family {
-        Family::Pt6312 => Knowledge {
+        Family::Pt6312 => Control {
             switches: Standing::Known(value % 16),
-            ..k
+            ..c
         },
-        Family::Pt6315 => k,
+        Family::Pt6315 => c,
     }
 }

@@ -3,7 +3,11 @@ use crate::bytes::byte_in;
 use crate::latches::keys_latched;
 use crate::latches::switches_latched;
 use crate::reads::byte_out;
+use crate::steps::Step;
+use crate::steps::forgotten;
+use crate::steps::kept;
 use segment::Family;
+use segment_knowledge::Control;
 use segment_knowledge::FIRST;
 use segment_knowledge::IDLE;
 use segment_knowledge::INCREMENT;
@@ -12,46 +16,49 @@ use segment_knowledge::OFF;
 use segment_knowledge::Pointing;
 use segment_knowledge::WRITE_DISPLAY;
 use segment_knowledge::at;
-use segment_knowledge::nothing_known;
+use segment_knowledge::no_control;
 use standing::Standing;
+use standing::apply;
 use terms::Address;
 use terms::Event;
+ghost use lib.ListN.{length};
 ghost use Rattle.rules.specs.Rule.{gives, free};
+ghost use mathlib.Core.Path.{_≡_};
 ghost use Rattle.segment.specs.Family.{sizes};
 ghost use Rattle.segment.specs.Move.{powered, move};
-ghost use Rattle.knowing.specs.Ways.{Becomes};
-ghost use Rattle.segment_knowledge.specs.View.{kview, Knows};
+ghost use Rattle.segment_knowledge.specs.View.{Knows};
+ghost use Rattle.segment_known.specs.Step.{Steps, Forgets};
 
-// The knowledge after an event.
-pub fn moved(family: Family, k: Knowledge, event: Event) -> Knowledge
-    ensures { λ r. ⌜ Knows (sizes family) (move (sizes family) event) k r ⌝ }
+// What is known beside the memory after an event, and what happens to the memory.
+fn step(family: Family, c: Control, event: Event) -> Step
+    ensures { λ r. ⌜ Steps (sizes family) (move (sizes family) event) c r ⌝ }
 {
     match event {
-        Event::Power => at_power(family, k),
-        Event::Falls => at(k, FIRST),
-        Event::ByteIn(byte) => byte_in(family, k, byte),
-        Event::Rises => at(k, IDLE),
-        Event::Gap => lost(k),
-        Event::Unfinished(_) => at(k, IDLE),
-        Event::Keys(k0, k1, k2, k3) => keys_latched(family, k, k0, k1, k2, k3),
-        Event::Switches(value) => switches_latched(family, k, value),
-        Event::ByteOut => byte_out(family, k),
+        Event::Power => forgotten(at_power(family, c)),
+        Event::Falls => kept(at(c, FIRST)),
+        Event::ByteIn(byte) => byte_in(family, c, byte),
+        Event::Rises => kept(at(c, IDLE)),
+        Event::Gap => lost(family, c),
+        Event::Unfinished(_) => kept(at(c, IDLE)),
+        Event::Keys(k0, k1, k2, k3) => kept(keys_latched(family, c, k0, k1, k2, k3)),
+        Event::Switches(value) => kept(switches_latched(family, c, value)),
+        Event::ByteOut => kept(byte_out(family, c)),
     }
 }
 
 // Whatever was known, events were lost.
-fn lost(k: Knowledge) -> Knowledge
-    ensures { λ r. ⌜ Becomes kview (λ f. free) k r ⌝ }
+fn lost(family: Family, c: Control) -> Step
+    ensures { λ r. ⌜ Steps (sizes family) (gives (λ f. free)) c r ⌝ }
 {
-    nothing_known()
+    let control = no_control();
+    forgotten(control)
 }
 
-fn at_power(family: Family, k: Knowledge) -> Knowledge
-    ensures { λ r. ⌜ Knows (sizes family) (gives (powered (sizes family))) k r ⌝ }
+fn at_power(family: Family, c: Control) -> Control
+    ensures { λ r. ⌜ Forgets (sizes family) (gives (powered (sizes family))) c r ⌝ }
 {
     let sizes = family.sizes();
-    Knowledge {
-        cells: [256; 36],
+    Control {
         address: Pointing::At(Address(0)),
         data: Standing::Known(WRITE_DISPLAY),
         stepping: Standing::Known(INCREMENT),
@@ -63,5 +70,35 @@ fn at_power(family: Family, k: Knowledge) -> Knowledge
         switches: Standing::Unknown,
         count: Standing::Known(0),
         position: Standing::Known(IDLE),
+    }
+}
+
+// An event taken through a knowledge, whose cells are changed where they stand.
+pub fn taken(family: Family, c: Control, cells: &mut [u16], event: Event) -> Control
+    requires { ⌜ length (now cells) ≡ 36 ⌝ }
+    ensures { λ r. ⌜ Knows (sizes family) (move (sizes family) event) (record { cells = now (cells .entry); control = c }) (record { cells = now (cells .exit); control = r }) ⌝ }
+{
+    let next = step(family, c, event);
+    let change = next.change;
+    apply(cells, change);
+    next.control
+}
+
+// The knowledge after an event.
+pub fn moved(family: Family, k: Knowledge, event: Event) -> Knowledge
+    ensures { λ r. ⌜ Knows (sizes family) (move (sizes family) event) k r ⌝ }
+{
+    let cells = k.cells;
+    moved_by(family, k.control, cells, event)
+}
+
+fn moved_by(family: Family, c: Control, cells: [u16; 36], event: Event) -> Knowledge
+    ensures { λ r. ⌜ Knows (sizes family) (move (sizes family) event) (record { cells = cells; control = c }) r ⌝ }
+{
+    let mut new = cells;
+    let control = taken(family, c, &mut new, event);
+    Knowledge {
+        cells: new,
+        control,
     }
 }

@@ -1,9 +1,9 @@
 // What a byte clocked out makes of a knowledge.
 use segment::Family;
+use segment_knowledge::Control;
 use segment_knowledge::FIRST;
 use segment_knowledge::IDLE;
 use segment_knowledge::IGNORING;
-use segment_knowledge::Knowledge;
 use segment_knowledge::OPEN;
 use segment_knowledge::READ_KEYS;
 use segment_knowledge::READ_SWITCHES;
@@ -17,48 +17,48 @@ ghost use Rattle.rules.specs.Rule.{look};
 ghost use Rattle.segment.specs.Family.{sizes};
 ghost use Rattle.segment.specs.Fact.{dataMode, readCount, position};
 ghost use Rattle.segment.specs.Move.{counted, readOut, byteOut};
-ghost use Rattle.segment_knowledge.specs.View.{Knows};
+ghost use Rattle.segment_known.specs.Step.{Keeps};
 
-pub fn byte_out(family: Family, k: Knowledge) -> Knowledge
-    ensures { λ r. ⌜ Knows (sizes family) (look position byteOut) k r ⌝ }
+pub fn byte_out(family: Family, c: Control) -> Control
+    ensures { λ r. ⌜ Keeps (sizes family) (look position byteOut) c r ⌝ }
 {
-    let position = k.position;
+    let position = c.position;
     match position {
-        Standing::Known(place) => out_at(family, k, place),
+        Standing::Known(place) => out_at(family, c, place),
         Standing::Unknown => {
-            let shut = both(at(k, IDLE), at(k, FIRST));
-            let open = open_out(family, at(k, OPEN));
-            both(both(shut, open), at(k, IGNORING))
+            let shut = both(at(c, IDLE), at(c, FIRST));
+            let open = open_out(family, at(c, OPEN));
+            both(both(shut, open), at(c, IGNORING))
         }
     }
 }
 
-fn out_at(family: Family, k: Knowledge, place: u8) -> Knowledge
-    ensures { λ r. ⌜ Knows (sizes family) (byteOut place) k r ⌝ }
+fn out_at(family: Family, c: Control, place: u8) -> Control
+    ensures { λ r. ⌜ Keeps (sizes family) (byteOut place) c r ⌝ }
 {
     match place {
-        OPEN => open_out(family, k),
-        _ => k,
+        OPEN => open_out(family, c),
+        _ => c,
     }
 }
 
-fn open_out(family: Family, k: Knowledge) -> Knowledge
-    ensures { λ r. ⌜ Knows (sizes family) (look dataMode readOut) k r ⌝ }
+fn open_out(family: Family, c: Control) -> Control
+    ensures { λ r. ⌜ Keeps (sizes family) (look dataMode readOut) c r ⌝ }
 {
-    let data = k.data;
+    let data = c.data;
     match data {
         Standing::Known(mode) => {
             if mode < READ_KEYS {
-                k
+                c
             } else {
-                counted_up(family, k)
+                counted_up(family, c)
             }
         }
         Standing::Unknown => {
-            let writing = both(with_data(k, WRITE_DISPLAY), with_data(k, WRITE_LED));
-            let keys = both(writing, counted_up(family, with_data(k, READ_KEYS)));
+            let writing = both(with_data(c, WRITE_DISPLAY), with_data(c, WRITE_LED));
+            let keys = both(writing, counted_up(family, with_data(c, READ_KEYS)));
             match family {
-                Family::Pt6312 => both(keys, counted_up(family, with_data(k, READ_SWITCHES))),
+                Family::Pt6312 => both(keys, counted_up(family, with_data(c, READ_SWITCHES))),
                 Family::Pt6315 => keys,
             }
         }
@@ -66,18 +66,18 @@ fn open_out(family: Family, k: Knowledge) -> Knowledge
 }
 
 // An unknown count stays unknown: it may be any of several.
-fn counted_up(family: Family, k: Knowledge) -> Knowledge
-    ensures { λ r. ⌜ Knows (sizes family) (look readCount counted) k r ⌝ }
+fn counted_up(family: Family, c: Control) -> Control
+    ensures { λ r. ⌜ Keeps (sizes family) (look readCount counted) c r ⌝ }
 {
-    let count = k.count;
+    let count = c.count;
     match count {
         Standing::Known(n) => {
             let more = if n < 4 { n + 1 } else { 4 };
-            Knowledge {
+            Control {
                 count: Standing::Known(more),
-                ..k
+                ..c
             }
         }
-        Standing::Unknown => k,
+        Standing::Unknown => c,
     }
 }

@@ -1,12 +1,15 @@
 -- A report as what is known of the byte to be sent next, not driven being one more value than a byte has.
+use Prim.Native.Nat.{ℕ}
 use Rattle.rules.specs.Rule.{Rule}
-use Rattle.knowing.specs.Standing.{Standing, known, unknown}
+use Rattle.knowing.specs.Standing.{Standing, known, unknown, Within, Sound}
 use Rattle.knowing.specs.Ways as Ways
 use Rattle.segment.specs.declared.chip.Sizes.{Sizes}
-use Rattle.segment.specs.Fact.{Fact, same?, range}
+use Rattle.segment.specs.Fact.{Fact, same?, range, address, dataMode, stepping, mode, dimming, display, led, key, switches, readCount, position}
+use Rattle.segment.specs.Laws.{every}
 use Rattle.segment.specs.Sent.{notDriven}
+use Rattle.segment_knowledge.specs.declared.control.Control.{Control}
 use Rattle.segment_knowledge.specs.declared.knowledge.Knowledge.{Knowledge}
-use Rattle.segment_knowledge.specs.View.{kview}
+use Rattle.segment_knowledge.specs.View.{cview, kview}
 use Rattle.segment_sent.specs.declared.report.Sending.{Sending}
 use Rattle.segment_sent.specs.declared.report.Sending.the-variants.{Byte, NotDriven, Unknown}
 
@@ -19,6 +22,16 @@ sending Unknown = unknown
 abbrev pub reports : Sending → Unit {0} → Standing
 reports r _ = sending r
 
--- The report r is what the rule makes of the knowledge k.
-abbrev pub Reports : Sizes → Rule Fact (Unit {0}) → Knowledge → Sending → Type 0
-Reports s = Ways.Knows kview reports same? (range s)
+-- What is known beside the cells.
+abbrev pub bare : Control → Fact → Standing
+bare = cview (λ i. unknown)
+
+-- The report r is what the rule makes of c, whatever is known of the cells.
+abbrev pub Reports : Sizes → Rule Fact (Unit {0}) → Control → Sending → Type 0
+Reports s rule c r = (cells : ℕ → Standing) → Ways.Knows (cview cells) reports same? (range s) rule c r
+
+-- What is in range for a whole knowledge is in range beside its cells.
+pub bare-sound : (s : Sizes) (k : Knowledge) → Sound (range s) (kview k) → Sound (range s) (bare (k .control))
+bare-sound s k h =
+    every (λ (f : Fact). Within (range s f) (bare (k .control) f)) (λ i. tt) (h address) (h dataMode) (h stepping) (h mode) (h dimming) (h display) (h led) (λ i. h (key i)) (h switches)
+    (h readCount) (h position)

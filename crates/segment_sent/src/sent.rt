@@ -2,7 +2,7 @@
 use crate::join::both_sent;
 use crate::report::Sending;
 use segment::Family;
-use segment_knowledge::Knowledge;
+use segment_knowledge::Control;
 use segment_knowledge::OPEN;
 use segment_knowledge::READ_KEYS;
 use segment_knowledge::READ_SWITCHES;
@@ -18,85 +18,84 @@ ghost use Rattle.standing.specs.View.{coded};
 ghost use Rattle.segment.specs.Family.{sizes};
 ghost use Rattle.segment.specs.Fact.{range, dataMode, readCount, switches};
 ghost use Rattle.segment.specs.Sent.{sent, sentAt, openSent, keySent, switchesSent};
-ghost use Rattle.segment_knowledge.specs.View.{kview};
-ghost use Rattle.segment_sent.specs.Report.{sending, Reports};
+ghost use Rattle.segment_sent.specs.Report.{bare, sending, Reports};
 
-// What is sent next, for a knowledge whose known values are in range.
-pub fn sent_next(family: Family, k: Knowledge) -> Sending
-    requires { ⌜ Sound (range (sizes family)) (kview k) ⌝ }
-    ensures { λ r. ⌜ Reports (sizes family) (sent (sizes family)) k r ⌝ }
+// What is sent next, for a knowledge whose known values are in range. The memory has no part in it.
+pub fn sent_next(family: Family, c: Control) -> Sending
+    requires { ⌜ Sound (range (sizes family)) (bare c) ⌝ }
+    ensures { λ r. ⌜ Reports (sizes family) (sent (sizes family)) c r ⌝ }
 {
-    let position = k.position;
+    let position = c.position;
     match position {
-        Standing::Known(place) => sent_at(family, k, place),
-        Standing::Unknown => both_sent(Sending::NotDriven, open_sent(family, at(k, OPEN))),
+        Standing::Known(place) => sent_at(family, c, place),
+        Standing::Unknown => both_sent(Sending::NotDriven, open_sent(family, at(c, OPEN))),
     }
 }
 
-fn sent_at(family: Family, k: Knowledge, place: u8) -> Sending
-    requires { ⌜ Sound (range (sizes family)) (kview k) ⌝ }
-    ensures { λ r. ⌜ Reports (sizes family) (sentAt (sizes family) place) k r ⌝ }
+fn sent_at(family: Family, c: Control, place: u8) -> Sending
+    requires { ⌜ Sound (range (sizes family)) (bare c) ⌝ }
+    ensures { λ r. ⌜ Reports (sizes family) (sentAt (sizes family) place) c r ⌝ }
 {
     match place {
-        OPEN => open_sent(family, k),
+        OPEN => open_sent(family, c),
         _ => Sending::NotDriven,
     }
 }
 
-fn open_sent(family: Family, k: Knowledge) -> Sending
-    requires { ⌜ Sound (range (sizes family)) (kview k) ⌝ }
-    ensures { λ r. ⌜ Reports (sizes family) (look dataMode (openSent (sizes family))) k r ⌝ }
+fn open_sent(family: Family, c: Control) -> Sending
+    requires { ⌜ Sound (range (sizes family)) (bare c) ⌝ }
+    ensures { λ r. ⌜ Reports (sizes family) (look dataMode (openSent (sizes family))) c r ⌝ }
 {
-    let data = k.data;
+    let data = c.data;
     match data {
-        Standing::Known(mode) => sent_in(family, k, mode),
-        Standing::Unknown => sent_in_any(family, k),
+        Standing::Known(mode) => sent_in(family, c, mode),
+        Standing::Unknown => sent_in_any(family, c),
     }
 }
 
-fn sent_in(family: Family, k: Knowledge, mode: u8) -> Sending
-    requires { ⌜ (Sound (range (sizes family)) (kview k)) × (mode < range (sizes family) dataMode) ⌝ }
-    ensures { λ r. ⌜ Reports (sizes family) (openSent (sizes family) mode) k r ⌝ }
+fn sent_in(family: Family, c: Control, mode: u8) -> Sending
+    requires { ⌜ (Sound (range (sizes family)) (bare c)) × (mode < range (sizes family) dataMode) ⌝ }
+    ensures { λ r. ⌜ Reports (sizes family) (openSent (sizes family) mode) c r ⌝ }
 {
     match mode {
-        READ_KEYS => keys_sent(family, k),
-        READ_SWITCHES => switches_sent(family, k),
+        READ_KEYS => keys_sent(family, c),
+        READ_SWITCHES => switches_sent(family, c),
         _ => Sending::NotDriven,
     }
 }
 
 // In an unknown data mode two ways, those that write, drive nothing.
-fn sent_in_any(family: Family, k: Knowledge) -> Sending
-    requires { ⌜ (Sound (range (sizes family)) (kview k)) × (kview k dataMode ≡ unknown) ⌝ }
-    ensures { λ r. ⌜ Reports (sizes family) (look dataMode (openSent (sizes family))) k r ⌝ }
+fn sent_in_any(family: Family, c: Control) -> Sending
+    requires { ⌜ (Sound (range (sizes family)) (bare c)) × (bare c dataMode ≡ unknown) ⌝ }
+    ensures { λ r. ⌜ Reports (sizes family) (look dataMode (openSent (sizes family))) c r ⌝ }
 {
-    let keys = keys_sent(family, with_data(k, READ_KEYS));
+    let keys = keys_sent(family, with_data(c, READ_KEYS));
     let three = both_sent(Sending::NotDriven, keys);
     match family {
-        Family::Pt6312 => both_sent(three, switches_sent(family, with_data(k, READ_SWITCHES))),
+        Family::Pt6312 => both_sent(three, switches_sent(family, with_data(c, READ_SWITCHES))),
         Family::Pt6315 => three,
     }
 }
 
 // An unknown read count may be 0, where a key byte is sent, and 4, where the line is not driven.
-fn keys_sent(family: Family, k: Knowledge) -> Sending
-    requires { ⌜ Sound (range (sizes family)) (kview k) ⌝ }
-    ensures { λ r. ⌜ Reports (sizes family) (look readCount (keySent (sizes family))) k r ⌝ }
+fn keys_sent(family: Family, c: Control) -> Sending
+    requires { ⌜ Sound (range (sizes family)) (bare c) ⌝ }
+    ensures { λ r. ⌜ Reports (sizes family) (look readCount (keySent (sizes family))) c r ⌝ }
 {
-    let count = k.count;
+    let count = c.count;
     match count {
-        Standing::Known(n) => key_sent(family, k, n),
+        Standing::Known(n) => key_sent(family, c, n),
         Standing::Unknown => Sending::Unknown,
     }
 }
 
-fn key_sent(family: Family, k: Knowledge, n: u8) -> Sending
-    requires { ⌜ Sound (range (sizes family)) (kview k) ⌝ }
-    ensures { λ r. ⌜ Reports (sizes family) (keySent (sizes family) n) k r ⌝ }
+fn key_sent(family: Family, c: Control, n: u8) -> Sending
+    requires { ⌜ Sound (range (sizes family)) (bare c) ⌝ }
+    ensures { λ r. ⌜ Reports (sizes family) (keySent (sizes family) n) c r ⌝ }
 {
     let sizes = family.sizes();
     if n < sizes.keys {
-        let keys = k.keys;
+        let keys = c.keys;
         key_of(keys, n)
     } else {
         Sending::NotDriven
@@ -117,21 +116,21 @@ fn key_of(keys: [u16; 4], n: u8) -> Sending
 }
 
 // The same for the switches, which are sent at count 0.
-fn switches_sent(family: Family, k: Knowledge) -> Sending
-    requires { ⌜ Within 256 (kview k switches) ⌝ }
-    ensures { λ r. ⌜ Reports (sizes family) (look readCount switchesSent) k r ⌝ }
+fn switches_sent(family: Family, c: Control) -> Sending
+    requires { ⌜ Within 256 (bare c switches) ⌝ }
+    ensures { λ r. ⌜ Reports (sizes family) (look readCount switchesSent) c r ⌝ }
 {
-    let count = k.count;
+    let count = c.count;
     match count {
-        Standing::Known(n) => switches_at(family, k, n),
+        Standing::Known(n) => switches_at(family, c, n),
         Standing::Unknown => Sending::Unknown,
     }
 }
 
-fn switches_at(family: Family, k: Knowledge, n: u8) -> Sending
-    ensures { λ r. ⌜ Reports (sizes family) (switchesSent n) k r ⌝ }
+fn switches_at(family: Family, c: Control, n: u8) -> Sending
+    ensures { λ r. ⌜ Reports (sizes family) (switchesSent n) c r ⌝ }
 {
-    let value = k.switches;
+    let value = c.switches;
     if n == 0 {
         match value {
             Standing::Known(v) => Sending::Byte(v),

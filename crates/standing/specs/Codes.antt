@@ -2,7 +2,7 @@
 use Prim.Native.Nat.{ℕ, zero, suc, _+_, _*_, _<_, _≤_}
 use native.Mathlib.Omega.{arith}
 use native.Mathlib.Decide.{decLt, ℕ-discrete}
-use mathlib.Core.Path.{_≡_, refl, sym, ap, _∙_}
+use mathlib.Core.Path.{_≡_, refl, sym, ap, _∙_, subst}
 use mathlib.Core.Bool.{Bool, true, false, true≢false}
 use mathlib.Core.List.{List, [], _∷_}
 use lib.ListN.{length, length-set, getD, set, replicate, List·getD-eq-default}
@@ -121,6 +121,12 @@ met-more l r from by b n x step m h e = record {
         let q : i < n = omega arith in
         let t = before i q in
         getD-set-other r (from + by * n) (from + by * i) x 256 (λ z. omega arith) ∙ m .here i q
+
+-- The same where the codes stand side by side.
+pub met-run : (l r : List ℕ) (from b n x : ℕ) → Met l from 1 b n r → from + n < length r → x ≡ bothCodes (getD r (from + n) 0) b → Met l from 1 b (n + 1) (set r (from + n) x)
+met-run l r from b n x m h e =
+    let z : from + 1 * n ≡ from + n = omega arith in
+    subst (λ (k : ℕ). k < length r → x ≡ bothCodes (getD r k 0) b → Met l from 1 b (n + 1) (set r k x)) z (met-more l r from 1 b n x (omega arith) m) h e
 
 -- A byte's code is known to be the byte.
 pub coded-byte : (b : ℕ) → b < 256 → coded b ≡ known b

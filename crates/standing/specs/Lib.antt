@@ -1,2 +1,4 @@
 pub mod View
 pub mod Codes
+pub mod Change
+pub mod Together

@@ -2,3 +2,4 @@ pub mod Left
 pub mod Kept
 pub mod Segment
 pub mod Character
+pub mod Arrives

@@ -4,7 +4,15 @@ use recording::Read;
 use recording::record_at;
 use segment::Family;
 use segment_knowledge::Knowledge;
-use segment_known::moved;
+use segment_known::Target;
+use segment_known::counted_on;
+use segment_known::falls;
+use segment_known::goes_to;
+use segment_known::meets;
+use segment_known::rises;
+use segment_known::taken;
+use standing::put;
+use terms::Event;
 use terms::Part;
 use terms::Place;
 ghost use Rattle.walks.specs.Segment.{Walks};
@@ -15,16 +23,38 @@ pub struct SegmentWalked {
     pub k: Knowledge,
 }
 
+// The cells are changed where they stand. The events of every day have arms of their own, and cost no call.
 pub fn segment_walk(part: Part, family: Family, k: Knowledge, bytes: &[u8]) -> SegmentWalked
     ensures { λ r. ⌜ Walks part family k (now (bytes .entry)) r ⌝ }
 {
-    let mut known = k;
+    let mut cells = k.cells;
+    let mut control = k.control;
     let mut i = 0;
     while i < bytes.len() {
         let read = record_at(part, bytes, Place(i));
         match read {
             Read::Is(event, length) => {
-                known = moved(family, known, event);
+                match event {
+                    Event::Falls => control = falls(control),
+                    Event::Rises => control = rises(control),
+                    Event::ByteIn(byte) => {
+                        let to = goes_to(family, control);
+                        match to {
+                            Target::Cell(cell) => {
+                                put(&mut cells, cell, byte);
+                                control = counted_on(family, control, cell);
+                            }
+                            Target::Anywhere => meets(family, &mut cells, byte),
+                            Target::Elsewhere => control = taken(
+                                family,
+                                control,
+                                &mut cells,
+                                event,
+                            ),
+                        }
+                    }
+                    _ => control = taken(family, control, &mut cells, event),
+                }
                 i += length;
             }
             Read::Refused(refusal) => {
@@ -37,6 +67,6 @@ pub fn segment_walk(part: Part, family: Family, k: Knowledge, bytes: &[u8]) -> S
     }
     SegmentWalked {
         ending: Ending::Done,
-        k: known,
+        k: Knowledge { cells, control },
     }
 }

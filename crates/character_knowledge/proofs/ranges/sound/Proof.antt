@@ -28,7 +28,7 @@ both-hold-requires-3 : tie.Need-both-hold-requires-3
 both-hold-requires-3 c κs = search needs
 
 returns : tie.Need-returns
-returns c = let a = c .before .before .before .before .before .before .before .before .before .before .args in
+returns c = let a = c .before .before .before .before .before .before .before .before .before .before .before .args in
     let d = c .before .before .before .before .before .before .sixteen-sound .ensures in
     let x = c .before .before .before .before .before .sixteen-sound2 .ensures in
     let g = c .before .before .before .forty-sound .ensures in

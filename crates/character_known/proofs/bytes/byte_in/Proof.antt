@@ -1,11 +1,10 @@
 -- `character_known::bytes::byte_in` meets its contract: a known position goes its one way, an unknown one all six.
 -- Assumes nothing.
 use mathlib.Core.Path.{ap}
+use Rattle.character.specs.Fact.{position}
 use Rattle.character.specs.Move.{byteIn}
-use Rattle.character.specs.Fact.{same?, range, position}
-use Rattle.knowing.specs.Ways.{known-way}
 use Rattle.standing.specs.View.{stands}
-use Rattle.character_knowledge.specs.View.{kview}
+use Rattle.character_known.specs.Steps.{known-step}
 use borrow.Author.Needs.{needs}
 use Rattle.character_known.proofs.bytes.byte_in.Statement.{statement}
 use Rattle.character_known.proofs.bytes.byte_in.Tie as tie
@@ -24,7 +23,7 @@ in-anywhere-requires c κs = ap stands (c .enum-told .given .1)
 
 returns : tie.Need-returns
 returns c = let a = c .before .before .before .before .args in
-    known-way kview kview same? range position (byteIn (a .byte)) (a .k) _ _ (ap stands (c .before .before .position .given .1)) (c .in-at .ensures)
+    known-step position (byteIn (a .byte)) (a .c) _ _ (λ m. ap stands (c .before .before .position .given .1)) (c .in-at .ensures)
 
 returns-2 : tie.Need-returns-2
 returns-2 c = search needs

@@ -1,12 +1,10 @@
--- `character_known::bytes::in_anywhere` meets its contract: the six ways come together one after the other.
+-- `character_known::bytes::in_anywhere` meets its contract: each way is a step from the position learnt, and the six have in common what `both_steps` gathers.
 -- Assumes nothing.
 use mathlib.Core.Path.{refl}
-use Rattle.rules.specs.Rule.{gives, look}
-use Rattle.character.specs.Move.{commanded, shown, drawn, marked, byteIn}
-use Rattle.character.specs.Command.{commandOf}
-use Rattle.character.specs.Fact.{same?, range, dcramAt, cgramAt, adramAt, column, position}
-use Rattle.knowing.specs.Ways.{way, first-way, next-way, all-ways}
-use Rattle.character_knowledge.specs.View.{kview}
+use Rattle.character.specs.Fact.{position}
+use Rattle.character.specs.Move.{byteIn}
+use Rattle.character_known.specs.Steps.{kept-steps, kept-plain, goes}
+use Rattle.character_known.specs.Anywhere.{six-ways}
 use borrow.Author.Needs.{needs}
 use Rattle.character_known.proofs.bytes.in_anywhere.Statement.{statement}
 use Rattle.character_known.proofs.bytes.in_anywhere.Tie as tie
@@ -38,38 +36,44 @@ to-mark-requires c κs = search needs
 at-requires-5 : tie.Need-at-requires-5
 at-requires-5 c κs = search needs
 
-both-requires : tie.Need-both-requires
-both-requires c κs = search needs
+kept-requires : tie.Need-kept-requires
+kept-requires c κs = search needs
 
-both-requires-2 : tie.Need-both-requires-2
-both-requires-2 c κs = search needs
+both-steps-requires : tie.Need-both-steps-requires
+both-steps-requires c κs = search needs
 
-both-requires-3 : tie.Need-both-requires-3
-both-requires-3 c κs = search needs
+both-steps-requires-2 : tie.Need-both-steps-requires-2
+both-steps-requires-2 c κs = search needs
 
-both-requires-4 : tie.Need-both-requires-4
-both-requires-4 c κs = search needs
+both-steps-requires-3 : tie.Need-both-steps-requires-3
+both-steps-requires-3 c κs = search needs
+
+both-steps-requires-4 : tie.Need-both-steps-requires-4
+both-steps-requires-4 c κs = search needs
 
 at-requires-6 : tie.Need-at-requires-6
 at-requires-6 c κs = search needs
 
-both-requires-5 : tie.Need-both-requires-5
-both-requires-5 c κs = search needs
+kept-requires-2 : tie.Need-kept-requires-2
+kept-requires-2 c κs = search needs
+
+both-steps-requires-5 : tie.Need-both-steps-requires-5
+both-steps-requires-5 c κs = search needs
 
 returns : tie.Need-returns
-returns c = let a = c .before .before .before .before .before .before .before .before .before .before .before .before .before .before .before .args in
-    all-ways kview kview same? range position (byteIn (a .byte)) (a .k) 6 _ refl (c .before .before .before .before .before .before .before .before .before .before .before .before .before .before .before .pre)
-    (next-way kview kview same? range position (byteIn (a .byte)) (a .k) 4 _ _ _ (c .both5 .ensures)
-    (next-way kview kview same? range position (byteIn (a .byte)) (a .k) 3 _ _ _ (c .before .before .both4 .ensures)
-    (next-way kview kview same? range position (byteIn (a .byte)) (a .k) 2 _ _ _ (c .before .before .before .both3 .ensures)
-    (next-way kview kview same? range position (byteIn (a .byte)) (a .k) 1 _ _ _ (c .before .before .before .before .both2 .ensures)
-    (next-way kview kview same? range position (byteIn (a .byte)) (a .k) 0 _ _ _ (c .before .before .before .before .before .both .ensures)
-    (first-way kview kview same? range position (byteIn (a .byte)) (a .k) _ (c .before .before .before .before .before .before .at5 .ensures))
-    (way kview kview same? range (gives (commanded (commandOf (a .byte)))) _ _ _ _ _ (c .before .before .before .before .before .before .before .before .before .before .before .before .before .before .at .ensures) (c .before .before .before .before .before .before .before .before .before .before .before .before .before .first-in .ensures)))
-    (way kview kview same? range (look dcramAt (shown (a .byte))) _ _ _ _ _ (c .before .before .before .before .before .before .before .before .before .before .before .before .at2 .ensures) (c .before .before .before .before .before .before .before .before .before .before .before .to-show .ensures)))
-    (way kview kview same? range (look cgramAt (λ x. look column (drawn (a .byte) x))) _ _ _ _ _ (c .before .before .before .before .before .before .before .before .before .before .at3 .ensures) (c .before .before .before .before .before .before .before .before .before .to-draw .ensures)))
-    (way kview kview same? range (look adramAt (marked (a .byte))) _ _ _ _ _ (c .before .before .before .before .before .before .before .before .at4 .ensures) (c .before .before .before .before .before .before .before .to-mark .ensures)))
-    (c .before .at6 .ensures))
+returns c = let a = c .before .before .before .before .before .before .before .before .before .before .before .before .before .before .before .before .before .args in
+    let first = c .before .before .before .before .before .before .before .before .before .before .before .before .before .before .before .first-in .ensures in
+    let to-dcram = c .before .before .before .before .before .before .before .before .before .before .before .before .before .to-show .ensures in
+    let to-cgram = c .before .before .before .before .before .before .before .before .before .before .before .to-draw .ensures in
+    let to-adram = c .before .before .before .before .before .before .before .before .before .to-mark .ensures in
+    let idle = c .before .before .before .before .before .before .before .kept .ensures in
+    let ignoring = c .before .kept2 .ensures in
+    six-ways (a .byte) (a .c) _ _ _ _ _ _ _ _ _ _ _ (c .before .before .before .before .before .before .before .before .before .before .before .before .before .before .before .before .before .pre)
+    (goes position (byteIn (a .byte)) (a .c) 0 _ _ (c .before .before .before .before .before .before .before .before .at5 .ensures) (kept-steps idle (λ m f. refl))) (goes position (byteIn (a .byte)) (a .c) 1 _ _ (c .before .before .before .before .before .before .before .before .before .before .before .before .before .before .before .before .at .ensures) (first .0))
+    (goes position (byteIn (a .byte)) (a .c) 2 _ _ (c .before .before .before .before .before .before .before .before .before .before .before .before .before .before .at2 .ensures) (to-dcram .0)) (goes position (byteIn (a .byte)) (a .c) 3 _ _ (c .before .before .before .before .before .before .before .before .before .before .before .before .at3 .ensures) (to-cgram .0))
+    (goes position (byteIn (a .byte)) (a .c) 4 _ _ (c .before .before .before .before .before .before .before .before .before .before .at4 .ensures) (to-adram .0)) (goes position (byteIn (a .byte)) (a .c) 5 _ _ (c .before .before .at6 .ensures) (kept-steps ignoring (λ m f. refl)))
+    (kept-plain idle) (first .1) (to-dcram .1) (to-cgram .1) (to-adram .1) (kept-plain ignoring)
+    (c .before .before .before .before .before .before .both-steps .ensures) (c .before .before .before .before .before .both-steps2 .ensures) (c .before .before .before .before .both-steps3 .ensures) (c .before .before .before .both-steps4 .ensures) (c .both-steps5 .ensures)
 
 pub in-anywhere-spec : {M : Type 1} → statement M
 in-anywhere-spec =
@@ -84,10 +88,12 @@ in-anywhere-spec =
     at-requires-4
     to-mark-requires
     at-requires-5
-    both-requires
-    both-requires-2
-    both-requires-3
-    both-requires-4
+    kept-requires
+    both-steps-requires
+    both-steps-requires-2
+    both-steps-requires-3
+    both-steps-requires-4
     at-requires-6
-    both-requires-5
+    kept-requires-2
+    both-steps-requires-5
     returns)

@@ -2,10 +2,7 @@
 -- Assumes nothing.
 use mathlib.Core.Path.{refl}
 use Rattle.character_known.specs.Position.{other-place}
-use Rattle.character.specs.Move.{nothing, byteIn}
-use Rattle.character.specs.Fact.{same?, range}
-use Rattle.knowing.specs.Ways.{as-rule}
-use Rattle.character_knowledge.specs.View.{kview}
+use Rattle.character_known.specs.Steps.{kept-steps, same-rule}
 use borrow.Author.Needs.{needs}
 use Rattle.character_known.proofs.bytes.in_at.Statement.{statement}
 use Rattle.character_known.proofs.bytes.in_at.Tie as tie
@@ -22,21 +19,24 @@ to-draw-requires c κs = search needs
 to-mark-requires : tie.Need-to-mark-requires
 to-mark-requires c κs = search needs
 
+kept-requires : tie.Need-kept-requires
+kept-requires c κs = search needs
+
 returns : tie.Need-returns
-returns c = rw (c .before .match .keys1) (c .first-in .ensures)
+returns c = rw (c .before .match .keys1) (c .first-in .ensures .0)
 
 returns-2 : tie.Need-returns-2
-returns-2 c = rw (c .before .match .keys2) (c .to-show .ensures)
+returns-2 c = rw (c .before .match .keys2) (c .to-show .ensures .0)
 
 returns-3 : tie.Need-returns-3
-returns-3 c = rw (c .before .match .keys3) (c .to-draw .ensures)
+returns-3 c = rw (c .before .match .keys3) (c .to-draw .ensures .0)
 
 returns-4 : tie.Need-returns-4
-returns-4 c = rw (c .before .match .keys4) (c .to-mark .ensures)
+returns-4 c = rw (c .before .match .keys4) (c .to-mark .ensures .0)
 
 returns-5 : tie.Need-returns-5
-returns-5 c = let a = c .before .args in
-    as-rule kview kview same? range (byteIn (a .byte) (a .place)) nothing (a .k) (a .k) (other-place _ _ _ _ (a .place) (c .match .rest .0 .0 .0 .1) (c .match .rest .0 .0 .1) (c .match .rest .0 .1) (c .match .rest .1)) (λ f. refl)
+returns-5 c = let n = c .before .match .rest in
+    same-rule (other-place _ _ _ _ (c .before .before .args .place) (n .0 .0 .0 .1) (n .0 .0 .1) (n .0 .1) (n .1)) (kept-steps (c .kept .ensures) (λ m f. refl))
 
 pub in-at-spec : {M : Type 1} → statement M
 in-at-spec =
@@ -46,6 +46,7 @@ in-at-spec =
     to-show-requires
     to-draw-requires
     to-mark-requires
+    kept-requires
     returns
     returns-2
     returns-3

@@ -1,13 +1,13 @@
--- `character_known::bytes::to_show` meets its contract: at a known address the byte is stored there, at an unknown one it may be in any cell.
+-- `character_known::bytes::to_show` meets its contract: at a known address the byte is put there, at an unknown one it may be in any cell.
 -- Assumes nothing.
 use native.Mathlib.Omega.{arith}
 use mathlib.Core.Path.{refl, ap}
-use Rattle.character_knowledge.specs.View.{kview, points}
-use Rattle.character_known.specs.Cells.{dcram-open}
-use Rattle.knowing.specs.Ways.{known-way}
-use Rattle.character.specs.Move.{shown}
-use Rattle.character.specs.Fact.{same?, range, dcramAt}
+use Rattle.character_knowledge.specs.View.{cview, points}
+use Rattle.character.specs.Fact.{dcramAt}
 use Rattle.character.specs.Laws.{every}
+use Rattle.character.specs.Move.{shown}
+use Rattle.character_known.specs.Steps.{known-step}
+use Rattle.character_known.specs.Cells.{dcram-open}
 use borrow.Author.Needs.{needs}
 use Rattle.character_known.proofs.bytes.to_show.Statement.{statement}
 use Rattle.character_known.proofs.bytes.to_show.Tie as tie
@@ -21,20 +21,20 @@ show-at-requires c κs = search needs
 enum-told : tie.Need-enum-told
 enum-told c = search needs
 
-sixteen-meet-requires : tie.Need-sixteen-meet-requires
-sixteen-meet-requires c κs = search needs
-
 returns : tie.Need-returns
 returns c = let a = c .before .before .before .before .args in
-    known-way kview kview same? range dcramAt (shown (a .byte)) (a .k) _ _ (ap points (c .before .before .to .given .1)) (c .show-at .ensures)
+    (known-step dcramAt (shown (a .byte)) (a .c) _ _ (λ m. ap points (c .before .before .to .given .1)) (c .show-at .ensures .0), c .show-at .ensures .1)
 
 returns-2 : tie.Need-returns-2
-returns-2 c = let a = c .before .before .before .before .before .before .args in
-    let u = ap points (c .before .before .before .before .enum-told .given .1) in
-    dcram-open (a .k) _ (a .byte) (omega (arith, c .before .before .before .before .before .before .fits .byte)) u (c .before .before .sixteen-meet .ensures) u
-    (every _ (λ i n. absurd (n refl)) (λ i n. refl) (λ i n. refl) (λ n. absurd (n refl)) (λ n. refl) (λ n. refl) (λ n. refl) (λ n. refl) (λ n. refl) (λ n. refl) (λ n. refl) (λ n. refl))
+returns-2 c = let a = c .before .before .args in
+    let u = ap points (c .enum-told .given .1) in (
+      record {
+        knows = λ m. dcram-open (cview m (a .c)) _ (a .byte) u (λ i. refl) u
+            (every _ (λ i n. absurd (n refl)) (λ i n. refl) (λ i n. refl) (λ n. absurd (n refl)) (λ n. refl) (λ n. refl) (λ n. refl) (λ n. refl) (λ n. refl) (λ n. refl) (λ n. refl) (λ n. refl));
+        inside = ((omega arith, λ j h. omega arith), (tt, tt));
+      },
+      (tt, tt),
+    )
 
 pub to-show-spec : {M : Type 1} → statement M
-to-show-spec =
-    tie.close
-    (tie.spec enum-known-to show-at-requires enum-told sixteen-meet-requires returns returns-2)
+to-show-spec = tie.close (tie.spec enum-known-to show-at-requires enum-told returns returns-2)

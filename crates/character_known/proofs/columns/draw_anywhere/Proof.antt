@@ -4,6 +4,7 @@ use native.Mathlib.Omega.{arith}
 use mathlib.Core.Path.{refl, ap}
 use Rattle.standing.specs.View.{stands}
 use Rattle.character.specs.Laws.{every}
+use Rattle.character_knowledge.specs.View.{cview}
 use Rattle.character_known.specs.Columns.{place-open}
 use borrow.Author.Needs.{needs}
 use Rattle.character_known.proofs.columns.draw_anywhere.Statement.{statement}
@@ -18,25 +19,22 @@ draw-column-requires c κs = (c .before .before .before .pre, ap stands (c .befo
 enum-told : tie.Need-enum-told
 enum-told c = search needs
 
-forty-meet-requires : tie.Need-forty-meet-requires
-forty-meet-requires c κs = (omega arith, λ i h. omega arith)
-
 returns : tie.Need-returns
 returns c = search needs
 
 returns-2 : tie.Need-returns-2
-returns-2 c = let a = c .before .before .before .before .before .before .args in
-    let u = ap stands (c .before .before .before .before .enum-told .given .1) in
-    place-open (a .k) _ (a .byte) (every _ (λ i n. refl) (λ i n. absurd (n refl)) (λ i n. refl) (λ n. refl) (λ n. absurd (n refl)) (λ n. refl) (λ n. absurd (n refl)) (λ n. refl) (λ n. refl) (λ n. refl) (λ n. refl) (λ n. refl))
-    (c .before .before .before .before .before .before .pre) u (c .before .before .forty-meet .ensures) (c .before .before .before .before .before .before .pre) u
+returns-2 c = let a = c .before .before .args in
+    let p = c .before .before .pre in
+    let u = ap stands (c .enum-told .given .1) in (
+      record {
+        knows = λ m. place-open (cview m (a .c)) _ (a .byte)
+            (every _ (λ i n. refl) (λ i n. absurd (n refl)) (λ i n. refl) (λ n. refl) (λ n. absurd (n refl)) (λ n. refl) (λ n. absurd (n refl)) (λ n. refl) (λ n. refl) (λ n. refl) (λ n. refl) (λ n. refl))
+            p u (λ i. refl) p u;
+        inside = (tt, ((omega arith, λ j h. omega arith), tt));
+      },
+      (tt, tt),
+    )
 
 pub draw-anywhere-spec : {M : Type 1} → statement M
 draw-anywhere-spec =
-    tie.close
-    (tie.spec
-    enum-known-column
-    draw-column-requires
-    enum-told
-    forty-meet-requires
-    returns
-    returns-2)
+    tie.close (tie.spec enum-known-column draw-column-requires enum-told returns returns-2)

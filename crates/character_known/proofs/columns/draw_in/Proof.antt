@@ -3,11 +3,11 @@
 use native.Mathlib.Omega.{arith}
 use mathlib.Core.Path.{refl, ap}
 use Rattle.standing.specs.View.{stands}
-use Rattle.character_knowledge.specs.View.{kview}
+use Rattle.character.specs.Fact.{column}
 use Rattle.character.specs.Laws.{every}
 use Rattle.character.specs.Move.{drawn}
-use Rattle.character.specs.Fact.{same?, range, column}
-use Rattle.knowing.specs.Ways.{known-way}
+use Rattle.character_knowledge.specs.View.{cview}
+use Rattle.character_known.specs.Steps.{known-step}
 use Rattle.character_known.specs.Columns.{column-open}
 use borrow.Author.Needs.{needs}
 use Rattle.character_known.proofs.columns.draw_in.Statement.{statement}
@@ -22,30 +22,26 @@ draw-at-requires c κs = search needs
 enum-told : tie.Need-enum-told
 enum-told c = search needs
 
-mul-forty-meet : tie.Need-mul-forty-meet
-mul-forty-meet c = search needs
-
-forty-meet-requires : tie.Need-forty-meet-requires
-forty-meet-requires c κs = (omega arith, λ i h. omega arith)
+mul-t19 : tie.Need-mul-t19
+mul-t19 c = search needs
 
 returns : tie.Need-returns
 returns c = let a = c .before .before .before .before .args in
-    known-way kview kview same? range column (drawn (a .byte) (a .address .0)) (a .k) _ _ (ap stands (c .before .before .column .given .1)) (c .draw-at .ensures)
+    (known-step column (drawn (a .byte) (a .address .0)) (a .c) _ _ (λ m. ap stands (c .before .before .column .given .1)) (c .draw-at .ensures .0), c .draw-at .ensures .1)
 
 returns-2 : tie.Need-returns-2
-returns-2 c = let a = c .before .before .before .before .before .before .before .args in
-    let u = ap stands (c .before .before .before .before .before .enum-told .given .1) in
-    column-open (a .k) _ (a .byte) (every _ (λ i n. refl) (λ i n. absurd (n refl)) (λ i n. refl) (λ n. refl) (λ n. absurd (n refl)) (λ n. refl) (λ n. absurd (n refl)) (λ n. refl) (λ n. refl) (λ n. refl) (λ n. refl) (λ n. refl))
-    (a .address .0) (c .before .before .before .before .before .before .before .pre) u (c .before .before .forty-meet .ensures) refl u
+returns-2 c = let a = c .before .before .before .args in
+    let p = c .before .before .before .pre in
+    let u = ap stands (c .before .enum-told .given .1) in (
+      record {
+        knows = λ m. column-open (cview m (a .c)) _ (a .byte)
+            (every _ (λ i n. refl) (λ i n. absurd (n refl)) (λ i n. refl) (λ n. refl) (λ n. absurd (n refl)) (λ n. refl) (λ n. absurd (n refl)) (λ n. refl) (λ n. refl) (λ n. refl) (λ n. refl) (λ n. refl))
+            (a .address .0) p u (λ i. refl) refl u;
+        inside = (tt, ((omega arith, λ j h. omega arith), tt));
+      },
+      (tt, tt),
+    )
 
 pub draw-in-spec : {M : Type 1} → statement M
 draw-in-spec =
-    tie.close
-    (tie.spec
-    enum-known-column
-    draw-at-requires
-    enum-told
-    mul-forty-meet
-    forty-meet-requires
-    returns
-    returns-2)
+    tie.close (tie.spec enum-known-column draw-at-requires enum-told mul-t19 returns returns-2)

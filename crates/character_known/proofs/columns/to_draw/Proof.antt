@@ -2,10 +2,10 @@
 -- Assumes nothing.
 use mathlib.Core.Path.{ap}
 use Rattle.rules.specs.Rule.{look}
+use Rattle.character.specs.Fact.{cgramAt, column}
 use Rattle.character.specs.Move.{drawn}
-use Rattle.character.specs.Fact.{same?, range, cgramAt, column}
-use Rattle.knowing.specs.Ways.{known-way}
-use Rattle.character_knowledge.specs.View.{kview, points}
+use Rattle.character_knowledge.specs.View.{points}
+use Rattle.character_known.specs.Steps.{known-step}
 use borrow.Author.Needs.{needs}
 use Rattle.character_known.proofs.columns.to_draw.Statement.{statement}
 use Rattle.character_known.proofs.columns.to_draw.Tie as tie
@@ -24,7 +24,7 @@ draw-anywhere-requires c κs = ap points (c .enum-told .given .1)
 
 returns : tie.Need-returns
 returns c = let a = c .before .before .before .before .args in
-    known-way kview kview same? range cgramAt (λ x. look column (drawn (a .byte) x)) (a .k) _ _ (ap points (c .before .before .to .given .1)) (c .draw-in .ensures)
+    (known-step cgramAt (λ x. look column (drawn (a .byte) x)) (a .c) _ _ (λ m. ap points (c .before .before .to .given .1)) (c .draw-in .ensures .0), c .draw-in .ensures .1)
 
 returns-2 : tie.Need-returns-2
 returns-2 c = search needs

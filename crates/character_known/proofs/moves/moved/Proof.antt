@@ -1,117 +1,48 @@
--- `character_known::moves::moved` meets its contract: each event goes by its rule.
+-- `character_known::moves::moved` meets its contract: the step is done to each row, within it.
 -- Assumes nothing.
-use mathlib.Core.Path.{refl, ap}
-use Rattle.character.specs.Move.{nothing, move}
-use Rattle.character.specs.Fact.{same?, range, position}
-use Rattle.knowing.specs.Ways.{as-rule, learnt}
-use Rattle.character_knowledge.specs.View.{kview}
+use mathlib.Core.Path.{_≡_}
+use lib.ListN.{length}
+use Rattle.character_known.specs.Steps.{applied}
 use borrow.Author.Needs.{needs}
 use Rattle.character_known.proofs.moves.moved.Statement.{statement}
 use Rattle.character_known.proofs.moves.moved.Tie as tie
 
-enum-told : tie.Need-enum-told
-enum-told c = search needs
+step-requires : tie.Need-step-requires
+step-requires c κs = search needs
 
-at-power-requires : tie.Need-at-power-requires
-at-power-requires c κs = search needs
+slice-aggregate-apply : tie.Need-slice-aggregate-apply
+slice-aggregate-apply c = search needs
 
-enum-told-2 : tie.Need-enum-told-2
-enum-told-2 c = search needs
+apply-requires : tie.Need-apply-requires
+apply-requires c κs = let e : length (c .before .before .before .before .args .k .dcram) ≡ 16 = search needs in
+    rw e (c .before .before .step .ensures .inside .0)
 
-at-requires : tie.Need-at-requires
-at-requires c κs = search needs
+slice-aggregate-apply-2 : tie.Need-slice-aggregate-apply-2
+slice-aggregate-apply-2 c = search needs
 
-enum-known-event : tie.Need-enum-known-event
-enum-known-event c = search needs
+apply-requires-2 : tie.Need-apply-requires-2
+apply-requires-2 c κs = let e : length (c .before .before .before .before .before .before .before .before .args .k .cgram) ≡ 40 = search needs in
+    rw e (c .before .before .before .before .before .before .step .ensures .inside .1 .0)
 
-byte-in-requires : tie.Need-byte-in-requires
-byte-in-requires c κs = search needs
+slice-aggregate-apply-3 : tie.Need-slice-aggregate-apply-3
+slice-aggregate-apply-3 c = search needs
 
-enum-told-3 : tie.Need-enum-told-3
-enum-told-3 c = search needs
-
-at-requires-2 : tie.Need-at-requires-2
-at-requires-2 c κs = search needs
-
-enum-told-4 : tie.Need-enum-told-4
-enum-told-4 c = search needs
-
-lost-requires : tie.Need-lost-requires
-lost-requires c κs = search needs
-
-enum-told-5 : tie.Need-enum-told-5
-enum-told-5 c = search needs
-
-at-requires-3 : tie.Need-at-requires-3
-at-requires-3 c κs = search needs
-
-enum-told-6 : tie.Need-enum-told-6
-enum-told-6 c = search needs
-
-enum-told-7 : tie.Need-enum-told-7
-enum-told-7 c = search needs
-
-enum-told-8 : tie.Need-enum-told-8
-enum-told-8 c = search needs
+apply-requires-3 : tie.Need-apply-requires-3
+apply-requires-3 c κs = let e : length (c .before .before .before .before .before .before .before .before .before .before .before .before .args .k .adram) ≡ 16 = search needs in
+    rw e (c .before .before .before .before .before .before .before .before .before .before .step .ensures .inside .1 .1)
 
 returns : tie.Need-returns
-returns c = let a = c .before .before .before .args in
-    as-rule kview kview same? range _ _ (a .k) _ (ap move (c .before .enum-told .given .1)) (c .at-power .ensures)
-
-returns-2 : tie.Need-returns-2
-returns-2 c = let a = c .before .before .before .args in
-    as-rule kview kview same? range _ _ (a .k) _ (ap move (c .before .enum-told2 .given .1)) (learnt kview same? (a .k) _ position 1 (c .at .ensures))
-
-returns-3 : tie.Need-returns-3
-returns-3 c = let a = c .before .before .before .before .args in
-    as-rule kview kview same? range _ _ (a .k) _ (ap move (c .before .before .event .given .1)) (c .byte-in .ensures)
-
-returns-4 : tie.Need-returns-4
-returns-4 c = let a = c .before .before .before .args in
-    as-rule kview kview same? range _ _ (a .k) _ (ap move (c .before .enum-told3 .given .1)) (learnt kview same? (a .k) _ position 0 (c .at2 .ensures))
-
-returns-5 : tie.Need-returns-5
-returns-5 c = let a = c .before .before .before .args in
-    as-rule kview kview same? range _ _ (a .k) _ (ap move (c .before .enum-told4 .given .1)) (c .lost .ensures)
-
-returns-6 : tie.Need-returns-6
-returns-6 c = let a = c .before .before .before .args in
-    as-rule kview kview same? range _ _ (a .k) _ (ap move (c .before .enum-told5 .given .1)) (learnt kview same? (a .k) _ position 0 (c .at3 .ensures))
-
-returns-7 : tie.Need-returns-7
-returns-7 c = as-rule kview kview same? range _ nothing _ _ (ap move (c .enum-told6 .given .1)) (λ f. refl)
-
-returns-8 : tie.Need-returns-8
-returns-8 c = as-rule kview kview same? range _ nothing _ _ (ap move (c .enum-told7 .given .1)) (λ f. refl)
-
-returns-9 : tie.Need-returns-9
-returns-9 c = as-rule kview kview same? range _ nothing _ _ (ap move (c .enum-told8 .given .1)) (λ f. refl)
+returns c = applied _ (c .before .before .before .before .before .before .before .before .before .before .before .before .before .before .before .args .k) _ (c .before .before .before .before .before .before .before .before .before .before .apply .last .0) (c .before .before .before .before .before .before .apply2 .last .0) (c .before .before .apply3 .last .0) (c .before .before .before .before .before .before .before .before .before .before .before .before .before .step .ensures) (c .before .before .before .before .before .before .before .before .before .before .apply .ensures) (c .before .before .before .before .before .before .apply2 .ensures) (c .before .before .apply3 .ensures)
 
 pub moved-spec : {M : Type 1} → statement M
 moved-spec =
     tie.close
     (tie.spec
-    enum-told
-    at-power-requires
-    enum-told-2
-    at-requires
-    enum-known-event
-    byte-in-requires
-    enum-told-3
-    at-requires-2
-    enum-told-4
-    lost-requires
-    enum-told-5
-    at-requires-3
-    enum-told-6
-    enum-told-7
-    enum-told-8
-    returns
-    returns-2
-    returns-3
-    returns-4
-    returns-5
-    returns-6
-    returns-7
-    returns-8
-    returns-9)
+    step-requires
+    slice-aggregate-apply
+    apply-requires
+    slice-aggregate-apply-2
+    apply-requires-2
+    slice-aggregate-apply-3
+    apply-requires-3
+    returns)

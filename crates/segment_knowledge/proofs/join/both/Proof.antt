@@ -1,13 +1,12 @@
 -- `segment_knowledge::join::both` meets its contract: fact by fact, what the two have in common.
 -- Assumes nothing.
+use mathlib.Core.Path.{sym}
+use Rattle.knowing.specs.Join.{join-itself}
 use Rattle.segment.specs.Laws.{every}
 use Rattle.standing.specs.Codes.{joined-view}
 use borrow.Author.Needs.{needs}
 use Rattle.segment_knowledge.proofs.join.both.Statement.{statement}
 use Rattle.segment_knowledge.proofs.join.both.Tie as tie
-
-both-cells-requires : tie.Need-both-cells-requires
-both-cells-requires c κs = search needs
 
 both-keys-requires : tie.Need-both-keys-requires
 both-keys-requires c κs = search needs
@@ -28,17 +27,15 @@ both-standing-requires-3 : tie.Need-both-standing-requires-3
 both-standing-requires-3 c κs = search needs
 
 returns : tie.Need-returns
-returns c = let cells = c .before .before .before .before .before .before .before .before .both-cells .ensures in
-    let keys = c .before .before .before .before .before .both-keys .ensures in
+returns c = let keys = c .before .before .before .before .before .both-keys .ensures in
     let s = c .before .both-settings .ensures in
-    every _ (λ i. joined-view _ _ _ 36 (cells .0) (cells .1 .0) (cells .1 .1) i) (c .before .before .before .before .both-pointing .ensures) (c .before .before .before .both-standing .ensures)
+    λ cells. every _ (λ i. sym (join-itself (cells i))) (c .before .before .before .before .both-pointing .ensures) (c .before .before .before .both-standing .ensures)
     (c .before .before .both-standing2 .ensures) (s .mode) (s .dimming) (s .display) (s .led) (λ i. joined-view _ _ _ 4 (keys .0) (keys .1 .0) (keys .1 .1) i) (s .switches) (s .count) (c .both-standing3 .ensures)
 
 pub both-spec : {M : Type 1} → statement M
 both-spec =
     tie.close
     (tie.spec
-    both-cells-requires
     both-keys-requires
     both-pointing-requires
     both-standing-requires

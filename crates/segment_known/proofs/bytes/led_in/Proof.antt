@@ -6,7 +6,7 @@ use Rattle.segment_known.proofs.bytes.led_in.Statement.{statement}
 use Rattle.segment_known.proofs.bytes.led_in.Tie as tie
 
 returns : tie.Need-returns
-returns c = every _ (λ i. refl) refl refl refl refl refl refl refl (λ i. refl) refl refl refl
+returns c = λ cells. every _ (λ i. refl) refl refl refl refl refl refl refl (λ i. refl) refl refl refl
 
 pub led-in-spec : {M : Type 1} → statement M
 led-in-spec = tie.close (tie.spec returns)

@@ -1,17 +1,12 @@
 -- `segment_known::bytes::open_in` meets its contract: a known data mode goes its one way, an unknown one all that the part has.
 -- Assumes nothing.
-use Rattle.segment_knowledge.specs.View.{kview}
-use Rattle.segment.specs.Move.{sets, stored, written}
-use Rattle.segment.specs.Fact.{address, dataMode, led}
-use Rattle.rules.specs.Rule.{gives, look}
-use Prim.Native.Nat.{_%_}
-use Rattle.rules.specs.Change.{keep}
-use Rattle.segment.specs.Fact.{range}
-use mathlib.Core.Path.{ap}
+use mathlib.Core.Path.{refl, ap}
 use Rattle.standing.specs.View.{stands}
+use Rattle.segment.specs.Fact.{range, dataMode}
 use Rattle.segment.specs.Family.{sizes}
-use Rattle.knowing.specs.Ways.{way, known-way, first-way, next-way, all-ways}
-use Rattle.segment.specs.Fact.{same?}
+use Rattle.segment.specs.Move.{written}
+use Rattle.segment_known.specs.StepLaws.{kept-steps, with-kept}
+use Rattle.segment_known.specs.StepWays.{step-known, step-first, step-next, step-all}
 use borrow.Author.Needs.{needs}
 use Rattle.segment_known.proofs.bytes.open_in.Statement.{statement}
 use Rattle.segment_known.proofs.bytes.open_in.Tie as tie
@@ -37,14 +32,20 @@ with-data-requires-2 c κs = search needs
 led-in-requires : tie.Need-led-in-requires
 led-in-requires c κs = search needs
 
-both-requires : tie.Need-both-requires
-both-requires c κs = search needs
+kept-requires : tie.Need-kept-requires
+kept-requires c κs = search needs
+
+both-steps-requires : tie.Need-both-steps-requires
+both-steps-requires c κs = search needs
 
 with-data-requires-3 : tie.Need-with-data-requires-3
 with-data-requires-3 c κs = search needs
 
-both-requires-2 : tie.Need-both-requires-2
-both-requires-2 c κs = search needs
+kept-requires-2 : tie.Need-kept-requires-2
+kept-requires-2 c κs = search needs
+
+both-steps-requires-2 : tie.Need-both-steps-requires-2
+both-steps-requires-2 c κs = search needs
 
 enum-told-2 : tie.Need-enum-told-2
 enum-told-2 c = search needs
@@ -52,40 +53,44 @@ enum-told-2 c = search needs
 with-data-requires-4 : tie.Need-with-data-requires-4
 with-data-requires-4 c κs = search needs
 
-both-requires-3 : tie.Need-both-requires-3
-both-requires-3 c κs = search needs
+kept-requires-3 : tie.Need-kept-requires-3
+kept-requires-3 c κs = search needs
+
+both-steps-requires-3 : tie.Need-both-steps-requires-3
+both-steps-requires-3 c κs = search needs
 
 enum-told-3 : tie.Need-enum-told-3
 enum-told-3 c = search needs
 
 returns : tie.Need-returns
 returns c = let a = c .before .before .before .before .args in
-    let s = sizes (a .family) in
-    known-way kview kview same? (range s) dataMode (written s (a .byte)) (a .k) _ _ (ap stands (c .before .before .«data» .given .1)) (c .written-in .ensures)
+    step-known (sizes (a .family)) dataMode (written (sizes (a .family)) (a .byte)) (a .c) _ (λ cells. ap stands (c .before .before .«data» .given .1)) (c .written-in .ensures)
 
 returns-2 : tie.Need-returns-2
 unfolding sizes
-returns-2 c = let a = c .before .before .before .before .before .before .before .before .before .before .before .before .before .args in
+returns-2 c = let a = c .before .before .before .before .before .before .before .before .before .before .before .before .before .before .before .before .args in
     let s = sizes (a .family) in
-    all-ways kview kview same? (range s) dataMode (written s (a .byte)) (a .k) 4 _ (ap (λ p. range (sizes p) dataMode) (c .before .before .enum-told2 .given .1)) (ap stands (c .before .before .before .before .before .before .before .before .before .before .before .enum-told .given .1))
-    (next-way kview kview same? (range s) dataMode (written s (a .byte)) (a .k) 2 _ _ _ (c .both3 .ensures)
-    (next-way kview kview same? (range s) dataMode (written s (a .byte)) (a .k) 1 _ _ _ (c .before .before .before .before .both2 .ensures)
-    (next-way kview kview same? (range s) dataMode (written s (a .byte)) (a .k) 0 _ _ _ (c .before .before .before .before .before .before .both .ensures)
-    (first-way kview kview same? (range s) dataMode (written s (a .byte)) (a .k) _ (way kview kview same? (range s) (look address (stored s (a .byte))) _ _ _ _ _ (c .before .before .before .before .before .before .before .before .before .before .with-data .ensures) (c .before .before .before .before .before .before .before .before .before .stored-by .ensures)))
-    (way kview kview same? (range s) (gives (sets led (a .byte % 16) keep)) _ _ _ _ _ (c .before .before .before .before .before .before .before .before .with-data2 .ensures) (c .before .before .before .before .before .before .before .led-in .ensures)))
-    (c .before .before .before .before .before .with-data3 .ensures))
-    (c .before .with-data4 .ensures))
+    let κ = written s (a .byte) in
+    step-all s dataMode κ (a .c) 4 (ap (λ p. range (sizes p) dataMode) (c .before .before .before .enum-told2 .given .1)) (λ cells. ap stands (c .before .before .before .before .before .before .before .before .before .before .before .before .before .before .enum-told .given .1))
+    (step-next s dataMode κ (a .c) 2 _ (with-kept (c .before .kept3 .ensures)) (c .both-steps3 .ensures)
+    (step-next s dataMode κ (a .c) 1 _ (with-kept (c .before .before .before .before .before .before .kept2 .ensures)) (c .before .before .before .before .before .both-steps2 .ensures)
+    (step-next s dataMode κ (a .c) 0 _ (with-kept (c .before .before .before .before .before .before .before .before .before .kept .ensures)) (c .before .before .before .before .before .before .before .before .both-steps .ensures)
+    (step-first s dataMode κ (a .c) _ (c .before .before .before .before .before .before .before .before .before .before .before .before .before .with-data .ensures) (c .before .before .before .before .before .before .before .before .before .before .before .before .stored-by .ensures))
+    (c .before .before .before .before .before .before .before .before .before .before .before .with-data2 .ensures) (kept-steps (c .before .before .before .before .before .before .before .before .before .kept .ensures) (c .before .before .before .before .before .before .before .before .before .before .led-in .ensures)))
+    (c .before .before .before .before .before .before .before .with-data3 .ensures) (kept-steps (c .before .before .before .before .before .before .kept2 .ensures) (λ cells f. refl)))
+    (c .before .before .with-data4 .ensures) (kept-steps (c .before .kept3 .ensures) (λ cells f. refl)))
 
 returns-3 : tie.Need-returns-3
 unfolding sizes
-returns-3 c = let a = c .before .before .before .before .before .before .before .before .before .before .before .args in
+returns-3 c = let a = c .before .before .before .before .before .before .before .before .before .before .before .before .before .args in
     let s = sizes (a .family) in
-    all-ways kview kview same? (range s) dataMode (written s (a .byte)) (a .k) 3 _ (ap (λ p. range (sizes p) dataMode) (c .enum-told3 .given .1)) (ap stands (c .before .before .before .before .before .before .before .before .before .enum-told .given .1))
-    (next-way kview kview same? (range s) dataMode (written s (a .byte)) (a .k) 1 _ _ _ (c .before .before .both2 .ensures)
-    (next-way kview kview same? (range s) dataMode (written s (a .byte)) (a .k) 0 _ _ _ (c .before .before .before .before .both .ensures)
-    (first-way kview kview same? (range s) dataMode (written s (a .byte)) (a .k) _ (way kview kview same? (range s) (look address (stored s (a .byte))) _ _ _ _ _ (c .before .before .before .before .before .before .before .before .with-data .ensures) (c .before .before .before .before .before .before .before .stored-by .ensures)))
-    (way kview kview same? (range s) (gives (sets led (a .byte % 16) keep)) _ _ _ _ _ (c .before .before .before .before .before .before .with-data2 .ensures) (c .before .before .before .before .before .led-in .ensures)))
-    (c .before .before .before .with-data3 .ensures))
+    let κ = written s (a .byte) in
+    step-all s dataMode κ (a .c) 3 (ap (λ p. range (sizes p) dataMode) (c .enum-told3 .given .1)) (λ cells. ap stands (c .before .before .before .before .before .before .before .before .before .before .before .enum-told .given .1))
+    (step-next s dataMode κ (a .c) 1 _ (with-kept (c .before .before .before .kept2 .ensures)) (c .before .before .both-steps2 .ensures)
+    (step-next s dataMode κ (a .c) 0 _ (with-kept (c .before .before .before .before .before .before .kept .ensures)) (c .before .before .before .before .before .both-steps .ensures)
+    (step-first s dataMode κ (a .c) _ (c .before .before .before .before .before .before .before .before .before .before .with-data .ensures) (c .before .before .before .before .before .before .before .before .before .stored-by .ensures))
+    (c .before .before .before .before .before .before .before .before .with-data2 .ensures) (kept-steps (c .before .before .before .before .before .before .kept .ensures) (c .before .before .before .before .before .before .before .led-in .ensures)))
+    (c .before .before .before .before .with-data3 .ensures) (kept-steps (c .before .before .before .kept2 .ensures) (λ cells f. refl)))
 
 pub open-in-spec : {M : Type 1} → statement M
 open-in-spec =
@@ -98,12 +103,15 @@ open-in-spec =
     stored-by-requires
     with-data-requires-2
     led-in-requires
-    both-requires
+    kept-requires
+    both-steps-requires
     with-data-requires-3
-    both-requires-2
+    kept-requires-2
+    both-steps-requires-2
     enum-told-2
     with-data-requires-4
-    both-requires-3
+    kept-requires-3
+    both-steps-requires-3
     enum-told-3
     returns
     returns-2

@@ -1,15 +1,17 @@
--- `segment_known::commanded::first_in` meets its contract: each arm knows the command.
+-- `segment_known::commanded::first_in` meets its contract: each arm knows the command, and keeps the cells or forgets them.
 -- Assumes nothing.
-use Rattle.segment_knowledge.specs.View.{kview}
-use Rattle.segment.specs.Family.{sizes}
-use Rattle.segment.specs.Move.{commanded}
-use mathlib.Core.Path.{sym, ap, _∙_}
-use Rattle.segment.specs.Laws.{every}
-use Rattle.segment.specs.Fact.{cell, address, dataMode, stepping, mode, dimming, display, led, key, switches, readCount, position}
-use Rattle.knowing.specs.Standing.{known}
+use mathlib.Core.Path.{sym, ap, _∙_, subst⁻¹}
+use Rattle.knowing.specs.Standing.{known, unknown}
 use Rattle.knowing.specs.Ways.{as-rule}
+use Rattle.segment.specs.Fact.{same?, range, cell, address, dataMode, stepping, mode, dimming, display, led, key, switches, readCount, position}
+use Rattle.segment.specs.Family.{sizes}
+use Rattle.segment.specs.Laws.{every}
+use Rattle.segment.specs.Move.{commanded}
+use Rattle.segment_knowledge.specs.View.{cview}
+use Rattle.segment_known.specs.declared.steps.Step.{Step}
+use Rattle.standing.specs.Change.{Plain}
+use Rattle.segment_known.specs.StepLaws.{kept-steps, forgotten-steps}
 use Rattle.segment_known.specs.Ways.{mode-small}
-use Rattle.segment.specs.Fact.{same?, range}
 use borrow.Author.Needs.{needs}
 use Rattle.segment_known.proofs.commanded.first_in.Statement.{statement}
 use Rattle.segment_known.proofs.commanded.first_in.Tie as tie
@@ -22,14 +24,19 @@ enum-known-command c = search needs
 
 to-mode-requires : tie.Need-to-mode-requires
 to-mode-requires c κs = let a = c .before .before .before .before .args in
-    let s = sizes (a .family) in
-    mode-small s (a .byte) _ (sym (c .before .command .given .1) ∙ c .before .before .before .command-of .ensures)
+    mode-small (sizes (a .family)) (a .byte) _ (sym (c .before .command .given .1) ∙ c .before .before .before .command-of .ensures)
+
+kept-requires : tie.Need-kept-requires
+kept-requires c κs = search needs
 
 enum-told : tie.Need-enum-told
 enum-told c = search needs
 
 in-test-requires : tie.Need-in-test-requires
 in-test-requires c κs = search needs
+
+forgotten-requires : tie.Need-forgotten-requires
+forgotten-requires c κs = search needs
 
 enum-known-command-2 : tie.Need-enum-known-command-2
 enum-known-command-2 c = search needs
@@ -43,6 +50,9 @@ step-number-requires c κs = search needs
 at-requires : tie.Need-at-requires
 at-requires c κs = search needs
 
+kept-requires-2 : tie.Need-kept-requires-2
+kept-requires-2 c κs = search needs
+
 enum-known-command-3 : tie.Need-enum-known-command-3
 enum-known-command-3 c = search needs
 
@@ -51,6 +61,9 @@ step-number-requires-2 c κs = search needs
 
 at-requires-2 : tie.Need-at-requires-2
 at-requires-2 c κs = search needs
+
+kept-requires-3 : tie.Need-kept-requires-3
+kept-requires-3 c κs = search needs
 
 enum-known-command-4 : tie.Need-enum-known-command-4
 enum-known-command-4 c = search needs
@@ -61,6 +74,9 @@ display-number-requires c κs = search needs
 at-requires-3 : tie.Need-at-requires-3
 at-requires-3 c κs = search needs
 
+kept-requires-4 : tie.Need-kept-requires-4
+kept-requires-4 c κs = search needs
+
 enum-known-command-5 : tie.Need-enum-known-command-5
 enum-known-command-5 c = search needs
 
@@ -70,45 +86,50 @@ known-pointing-requires c κs = search needs
 at-requires-4 : tie.Need-at-requires-4
 at-requires-4 c κs = search needs
 
+kept-requires-5 : tie.Need-kept-requires-5
+kept-requires-5 c κs = search needs
+
 returns : tie.Need-returns
-returns c = let a = c .before .before .before .before .before .args in
-    let s = sizes (a .family) in
-    as-rule kview kview same? (range s) _ _ (a .k) _ (ap commanded (sym (c .before .before .before .before .command-of .ensures) ∙ c .before .before .command .given .1))
-    (c .to-mode .ensures)
+returns c = let a = c .before .before .before .before .before .before .args in
+    let s = sizes (a .family) in (
+      kept-steps (c .kept .ensures) (λ cells. as-rule (cview cells) (cview cells) same? (range s) _ _ (a .c) _ (ap commanded (sym (c .before .before .before .before .before .command-of .ensures) ∙ c .before .before .before .command .given .1)) (c .before .to-mode .ensures cells)),
+      subst⁻¹ (λ (x : Step). Plain (x .change)) (c .kept .ensures) tt,
+    )
 
 returns-2 : tie.Need-returns-2
-returns-2 c = let a = c .before .before .before .before .args in
-    let s = sizes (a .family) in
-    as-rule kview kview same? (range s) _ _ (a .k) _ (ap commanded (sym (c .before .before .before .command-of .ensures) ∙ c .before .enum-told .given .1))
-    (c .in-test .ensures)
+returns-2 c = let a = c .before .before .before .before .before .args in
+    let s = sizes (a .family) in (
+      forgotten-steps (c .forgotten .ensures) (λ cells. as-rule (cview cells) (cview (λ i. unknown)) same? (range s) _ _ (a .c) _ (ap commanded (sym (c .before .before .before .before .command-of .ensures) ∙ c .before .before .enum-told .given .1)) (c .before .in-test .ensures cells)),
+      subst⁻¹ (λ (x : Step). Plain (x .change)) (c .forgotten .ensures) tt,
+    )
 
 returns-3 : tie.Need-returns-3
 returns-3 c = let a = c .before .before .before .before .before .before .before .before .before .args in
-    let s = sizes (a .family) in
-    let e = c .at .ensures in
-    as-rule kview kview same? (range s) _ _ (a .k) _ (ap commanded (sym (c .before .before .before .before .before .before .before .before .command-of .ensures) ∙ c .before .before .before .before .before .before .command2 .given .1))
-    (every _ (λ i. e (cell i)) (e address) (e dataMode ∙ ap known (c .before .before .before .before .data-number .ensures)) (e stepping ∙ ap known (c .before .before .before .step-number .ensures)) (e mode) (e dimming) (e display) (e led) (λ i. e (key i)) (e switches) (e readCount) (e position))
+    let s = sizes (a .family) in (
+      kept-steps (c .kept2 .ensures) (λ cells. as-rule (cview cells) (cview cells) same? (range s) _ _ (a .c) _ (ap commanded (sym (c .before .before .before .before .before .before .before .before .command-of .ensures) ∙ c .before .before .before .before .before .before .command2 .given .1)) (let e = c .before .at .ensures cells in every _ (λ i. e (cell i)) (e address) (e dataMode ∙ ap known (c .before .before .before .before .data-number .ensures)) (e stepping ∙ ap known (c .before .before .before .step-number .ensures)) (e mode) (e dimming) (e display) (e led) (λ i. e (key i)) (e switches) (e readCount) (e position))),
+      subst⁻¹ (λ (x : Step). Plain (x .change)) (c .kept2 .ensures) tt,
+    )
 
 returns-4 : tie.Need-returns-4
 returns-4 c = let a = c .before .before .before .before .before .before .before .before .args in
-    let s = sizes (a .family) in
-    let e = c .at2 .ensures in
-    as-rule kview kview same? (range s) _ _ (a .k) _ (ap commanded (sym (c .before .before .before .before .before .before .before .command-of .ensures) ∙ c .before .before .before .before .before .command3 .given .1))
-    (every _ (λ i. e (cell i)) (e address) (e dataMode) (e stepping ∙ ap known (c .before .before .before .step-number2 .ensures)) (e mode) (e dimming) (e display) (e led) (λ i. e (key i)) (e switches) (e readCount) (e position))
+    let s = sizes (a .family) in (
+      kept-steps (c .kept3 .ensures) (λ cells. as-rule (cview cells) (cview cells) same? (range s) _ _ (a .c) _ (ap commanded (sym (c .before .before .before .before .before .before .before .command-of .ensures) ∙ c .before .before .before .before .before .command3 .given .1)) (let e = c .before .at2 .ensures cells in every _ (λ i. e (cell i)) (e address) (e dataMode) (e stepping ∙ ap known (c .before .before .before .step-number2 .ensures)) (e mode) (e dimming) (e display) (e led) (λ i. e (key i)) (e switches) (e readCount) (e position))),
+      subst⁻¹ (λ (x : Step). Plain (x .change)) (c .kept3 .ensures) tt,
+    )
 
 returns-5 : tie.Need-returns-5
 returns-5 c = let a = c .before .before .before .before .before .before .before .before .args in
-    let s = sizes (a .family) in
-    let e = c .at3 .ensures in
-    as-rule kview kview same? (range s) _ _ (a .k) _ (ap commanded (sym (c .before .before .before .before .before .before .before .command-of .ensures) ∙ c .before .before .before .before .before .command4 .given .1))
-    (every _ (λ i. e (cell i)) (e address) (e dataMode) (e stepping) (e mode) (e dimming) (e display ∙ ap known (c .before .before .before .display-number .ensures)) (e led) (λ i. e (key i)) (e switches) (e readCount) (e position))
+    let s = sizes (a .family) in (
+      kept-steps (c .kept4 .ensures) (λ cells. as-rule (cview cells) (cview cells) same? (range s) _ _ (a .c) _ (ap commanded (sym (c .before .before .before .before .before .before .before .command-of .ensures) ∙ c .before .before .before .before .before .command4 .given .1)) (let e = c .before .at3 .ensures cells in every _ (λ i. e (cell i)) (e address) (e dataMode) (e stepping) (e mode) (e dimming) (e display ∙ ap known (c .before .before .before .display-number .ensures)) (e led) (λ i. e (key i)) (e switches) (e readCount) (e position))),
+      subst⁻¹ (λ (x : Step). Plain (x .change)) (c .kept4 .ensures) tt,
+    )
 
 returns-6 : tie.Need-returns-6
 returns-6 c = let a = c .before .before .before .before .before .before .before .before .args in
-    let s = sizes (a .family) in
-    let e = c .at4 .ensures in
-    as-rule kview kview same? (range s) _ _ (a .k) _ (ap commanded (sym (c .before .before .before .before .before .before .before .command-of .ensures) ∙ c .before .before .before .before .before .command5 .given .1))
-    (every _ (λ i. e (cell i)) (e address ∙ c .before .before .before .known-pointing .ensures) (e dataMode) (e stepping) (e mode) (e dimming) (e display) (e led) (λ i. e (key i)) (e switches) (e readCount) (e position))
+    let s = sizes (a .family) in (
+      kept-steps (c .kept5 .ensures) (λ cells. as-rule (cview cells) (cview cells) same? (range s) _ _ (a .c) _ (ap commanded (sym (c .before .before .before .before .before .before .before .command-of .ensures) ∙ c .before .before .before .before .before .command5 .given .1)) (let e = c .before .at4 .ensures cells in every _ (λ i. e (cell i)) (e address ∙ c .before .before .before .known-pointing .ensures) (e dataMode) (e stepping) (e mode) (e dimming) (e display) (e led) (λ i. e (key i)) (e switches) (e readCount) (e position))),
+      subst⁻¹ (λ (x : Step). Plain (x .change)) (c .kept5 .ensures) tt,
+    )
 
 pub first-in-spec : {M : Type 1} → statement M
 first-in-spec =
@@ -117,21 +138,27 @@ first-in-spec =
     command-of-requires
     enum-known-command
     to-mode-requires
+    kept-requires
     enum-told
     in-test-requires
+    forgotten-requires
     enum-known-command-2
     data-number-requires
     step-number-requires
     at-requires
+    kept-requires-2
     enum-known-command-3
     step-number-requires-2
     at-requires-2
+    kept-requires-3
     enum-known-command-4
     display-number-requires
     at-requires-3
+    kept-requires-4
     enum-known-command-5
     known-pointing-requires
     at-requires-4
+    kept-requires-5
     returns
     returns-2
     returns-3

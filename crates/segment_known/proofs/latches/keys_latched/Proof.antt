@@ -25,11 +25,11 @@ key-in-requires-3 : tie.Need-key-in-requires-3
 key-in-requires-3 c κs = search needs
 
 returns : tie.Need-returns
-returns c = let a = c .before .before .before .before .before .before .args in
-    let f = c .before .before .before .before .before .before .fits in
-    let e = c .before .key-in3 .ensures .0 ∙ ap (λ (l : List ℕ). set l 0 (a .k0)) (c .before .before .key-in2 .ensures .0 ∙ ap (λ (l : List ℕ). set l 1 (a .k1)) (c .before .before .before .key-in .ensures .0)) in
+returns c = λ cells. let a = c .before .before .before .before .before .args in
+    let f = c .before .before .before .before .before .fits in
+    let e = c .key-in3 .ensures .0 ∙ ap (λ (l : List ℕ). set l 0 (a .k0)) (c .before .key-in2 .ensures .0 ∙ ap (λ (l : List ℕ). set l 1 (a .k1)) (c .before .before .key-in .ensures .0)) in
     every _ (λ i. refl) refl refl refl refl refl refl refl
-    (λ i. keys-coded (sizes (a .family)) (a .k) (a .k0) (a .k1) (a .k2) (a .k3) _ _ i (omega (arith, f .k0)) (omega (arith, f .k1)) (omega (arith, f .k2)) (omega (arith, f .k3)) (c .before .before .before .before .fourth-in .ensures .0) (c .before .before .before .before .fourth-in .ensures .1) e)
+    (λ i. keys-coded (sizes (a .family)) cells (a .c) (a .k0) (a .k1) (a .k2) (a .k3) _ _ i (omega (arith, f .k0)) (omega (arith, f .k1)) (omega (arith, f .k2)) (omega (arith, f .k3)) (c .before .before .before .fourth-in .ensures .0) (c .before .before .before .fourth-in .ensures .1) e)
     refl refl refl
 
 pub keys-latched-spec : {M : Type 1} → statement M

@@ -15,11 +15,11 @@ enum-told-2 c = search needs
 
 returns : tie.Need-returns
 unfolding sizes
-returns c = rw (c .before .before .enum-told .given .1) (every _ (λ i. refl) refl refl refl refl refl refl refl (λ i. refl) refl refl refl)
+returns c = λ cells. rw (c .before .enum-told .given .1) (every _ (λ i. refl) refl refl refl refl refl refl refl (λ i. refl) refl refl refl)
 
 returns-2 : tie.Need-returns-2
 unfolding sizes
-returns-2 c = rw (c .enum-told2 .given .1) (λ f. refl)
+returns-2 c = λ cells. rw (c .enum-told2 .given .1) (λ f. refl)
 
 pub switches-latched-spec : {M : Type 1} → statement M
 switches-latched-spec = tie.close (tie.spec enum-told enum-told-2 returns returns-2)

@@ -12,7 +12,7 @@ sizes-requires : tie.Need-sizes-requires
 sizes-requires c κs = search needs
 
 returns : tie.Need-returns
-returns c = rw (c .sizes .ensures) (every _ (λ i. ap coded (getD-same 36 i 256)) refl refl refl refl refl refl refl (λ i. ap coded (getD-same 4 i 256)) refl refl refl)
+returns c = λ cells. rw (c .sizes .ensures) (every _ (λ i. refl) refl refl refl refl refl refl refl (λ i. ap coded (getD-same 4 i 256)) refl refl refl)
 
 pub at-power-spec : {M : Type 1} → statement M
 at-power-spec = tie.close (tie.spec sizes-requires returns)

@@ -1,6 +1,6 @@
 -- `segment_known::reads::byte_out` meets its contract: a known position goes its one way, an unknown one all four.
 -- Assumes nothing.
-use Rattle.segment_knowledge.specs.View.{kview}
+use Rattle.segment_knowledge.specs.View.{cview}
 use Rattle.segment.specs.Family.{sizes}
 use Rattle.segment.specs.Move.{readOut, byteOut}
 use Rattle.segment.specs.Fact.{dataMode, position}
@@ -47,21 +47,21 @@ both-requires-3 : tie.Need-both-requires-3
 both-requires-3 c κs = search needs
 
 returns : tie.Need-returns
-returns c = let a = c .before .before .before .before .args in
+returns c = λ cells. let a = c .before .before .before .before .args in
     let s = sizes (a .family) in
-    known-way kview kview same? (range s) position (byteOut) (a .k) _ _ (ap stands (c .before .before .position .given .1)) (c .out-at .ensures)
+    known-way (cview cells) (cview cells) same? (range s) position (byteOut) (a .c) _ _ (ap stands (c .before .before .position .given .1)) (c .out-at .ensures cells)
 
 returns-2 : tie.Need-returns-2
-returns-2 c = let a = c .before .before .before .before .before .before .before .before .before .before .args in
+returns-2 c = λ cells. let a = c .before .before .before .before .before .before .before .before .before .before .args in
     let s = sizes (a .family) in
-    all-ways kview kview same? (range s) position byteOut (a .k) 4 _ refl (ap stands (c .before .before .before .before .before .before .before .before .enum-told .given .1))
-    (next-way kview kview same? (range s) position byteOut (a .k) 2 _ _ _ (c .both3 .ensures)
-    (next-way kview kview same? (range s) position byteOut (a .k) 1 _ _ _ (c .before .before .both2 .ensures)
-    (next-way kview kview same? (range s) position byteOut (a .k) 0 _ _ _ (c .before .before .before .before .before .both .ensures)
-    (first-way kview kview same? (range s) position byteOut (a .k) _ (c .before .before .before .before .before .before .before .at .ensures))
-    (c .before .before .before .before .before .before .at2 .ensures))
-    (way kview kview same? (range s) (look dataMode readOut) _ _ _ _ _ (c .before .before .before .before .at3 .ensures) (c .before .before .before .open-out .ensures)))
-    (c .before .at4 .ensures))
+    all-ways (cview cells) (cview cells) same? (range s) position byteOut (a .c) 4 _ refl (ap stands (c .before .before .before .before .before .before .before .before .enum-told .given .1))
+    (next-way (cview cells) (cview cells) same? (range s) position byteOut (a .c) 2 _ _ _ (c .both3 .ensures cells)
+    (next-way (cview cells) (cview cells) same? (range s) position byteOut (a .c) 1 _ _ _ (c .before .before .both2 .ensures cells)
+    (next-way (cview cells) (cview cells) same? (range s) position byteOut (a .c) 0 _ _ _ (c .before .before .before .before .before .both .ensures cells)
+    (first-way (cview cells) (cview cells) same? (range s) position byteOut (a .c) _ (c .before .before .before .before .before .before .before .at .ensures cells))
+    (c .before .before .before .before .before .before .at2 .ensures cells))
+    (way (cview cells) (cview cells) same? (range s) (look dataMode readOut) _ _ _ _ _ (c .before .before .before .before .at3 .ensures cells) (c .before .before .before .open-out .ensures cells)))
+    (c .before .at4 .ensures cells))
 
 pub byte-out-spec : {M : Type 1} → statement M
 byte-out-spec =

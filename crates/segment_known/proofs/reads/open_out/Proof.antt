@@ -1,6 +1,6 @@
 -- `segment_known::reads::open_out` meets its contract: a known data mode goes its one way, an unknown one all that the part has.
 -- Assumes nothing.
-use Rattle.segment_knowledge.specs.View.{kview}
+use Rattle.segment_knowledge.specs.View.{cview}
 use Rattle.segment.specs.Move.{nothing, counted, readOut}
 use Rattle.segment.specs.Fact.{dataMode, readCount}
 use Rattle.rules.specs.Rule.{look}
@@ -58,38 +58,38 @@ enum-told-3 : tie.Need-enum-told-3
 enum-told-3 c = search needs
 
 returns : tie.Need-returns
-returns c = let a = c .before .before .before .before .args in
+returns c = λ cells. let a = c .before .before .before .before .args in
     let s = sizes (a .family) in
-    known-way kview kview same? (range s) dataMode (readOut) (a .k) _ _ (ap stands (c .before .before .«data» .given .1)) (as-rule kview kview same? (range s) _ nothing (a .k) (a .k) (low-read (look readCount counted) _ (c .if1 .taken)) (λ f. refl))
+    known-way (cview cells) (cview cells) same? (range s) dataMode (readOut) (a .c) _ _ (ap stands (c .before .before .«data» .given .1)) (as-rule (cview cells) (cview cells) same? (range s) _ nothing (a .c) (a .c) (low-read (look readCount counted) _ (c .if1 .taken)) (λ f. refl))
 
 returns-2 : tie.Need-returns-2
-returns-2 c = let a = c .before .before .before .before .before .args in
+returns-2 c = λ cells. let a = c .before .before .before .before .before .args in
     let s = sizes (a .family) in
-    known-way kview kview same? (range s) dataMode (readOut) (a .k) _ _ (ap stands (c .before .before .before .«data» .given .1)) (as-rule kview kview same? (range s) _ (look readCount counted) (a .k) _ (high-read (look readCount counted) _ (c .before .if1 .left)) (c .counted-up .ensures))
+    known-way (cview cells) (cview cells) same? (range s) dataMode (readOut) (a .c) _ _ (ap stands (c .before .before .before .«data» .given .1)) (as-rule (cview cells) (cview cells) same? (range s) _ (look readCount counted) (a .c) _ (high-read (look readCount counted) _ (c .before .if1 .left)) (c .counted-up .ensures cells))
 
 returns-3 : tie.Need-returns-3
 unfolding sizes
-returns-3 c = let a = c .before .before .before .before .before .before .before .before .before .before .before .before .before .args in
+returns-3 c = λ cells. let a = c .before .before .before .before .before .before .before .before .before .before .before .before .before .args in
     let s = sizes (a .family) in
-    all-ways kview kview same? (range s) dataMode readOut (a .k) 4 _ (ap (λ p. range (sizes p) dataMode) (c .before .before .before .enum-told2 .given .1)) (ap stands (c .before .before .before .before .before .before .before .before .before .before .before .enum-told .given .1))
-    (next-way kview kview same? (range s) dataMode readOut (a .k) 2 _ _ _ (c .both3 .ensures)
-    (next-way kview kview same? (range s) dataMode readOut (a .k) 1 _ _ _ (c .before .before .before .before .before .both2 .ensures)
-    (next-way kview kview same? (range s) dataMode readOut (a .k) 0 _ _ _ (c .before .before .before .before .before .before .before .before .both .ensures)
-    (first-way kview kview same? (range s) dataMode readOut (a .k) _ (c .before .before .before .before .before .before .before .before .before .before .with-data .ensures))
-    (c .before .before .before .before .before .before .before .before .before .with-data2 .ensures))
-    (way kview kview same? (range s) (look readCount counted) _ _ _ _ _ (c .before .before .before .before .before .before .before .with-data3 .ensures) (c .before .before .before .before .before .before .counted-up2 .ensures)))
-    (way kview kview same? (range s) (look readCount counted) _ _ _ _ _ (c .before .before .with-data4 .ensures) (c .before .counted-up3 .ensures)))
+    all-ways (cview cells) (cview cells) same? (range s) dataMode readOut (a .c) 4 _ (ap (λ p. range (sizes p) dataMode) (c .before .before .before .enum-told2 .given .1)) (ap stands (c .before .before .before .before .before .before .before .before .before .before .before .enum-told .given .1))
+    (next-way (cview cells) (cview cells) same? (range s) dataMode readOut (a .c) 2 _ _ _ (c .both3 .ensures cells)
+    (next-way (cview cells) (cview cells) same? (range s) dataMode readOut (a .c) 1 _ _ _ (c .before .before .before .before .before .both2 .ensures cells)
+    (next-way (cview cells) (cview cells) same? (range s) dataMode readOut (a .c) 0 _ _ _ (c .before .before .before .before .before .before .before .before .both .ensures cells)
+    (first-way (cview cells) (cview cells) same? (range s) dataMode readOut (a .c) _ (c .before .before .before .before .before .before .before .before .before .before .with-data .ensures cells))
+    (c .before .before .before .before .before .before .before .before .before .with-data2 .ensures cells))
+    (way (cview cells) (cview cells) same? (range s) (look readCount counted) _ _ _ _ _ (c .before .before .before .before .before .before .before .with-data3 .ensures cells) (c .before .before .before .before .before .before .counted-up2 .ensures cells)))
+    (way (cview cells) (cview cells) same? (range s) (look readCount counted) _ _ _ _ _ (c .before .before .with-data4 .ensures cells) (c .before .counted-up3 .ensures cells)))
 
 returns-4 : tie.Need-returns-4
 unfolding sizes
-returns-4 c = let a = c .before .before .before .before .before .before .before .before .before .before .args in
+returns-4 c = λ cells. let a = c .before .before .before .before .before .before .before .before .before .before .args in
     let s = sizes (a .family) in
-    all-ways kview kview same? (range s) dataMode readOut (a .k) 3 _ (ap (λ p. range (sizes p) dataMode) (c .enum-told3 .given .1)) (ap stands (c .before .before .before .before .before .before .before .before .enum-told .given .1))
-    (next-way kview kview same? (range s) dataMode readOut (a .k) 1 _ _ _ (c .before .before .both2 .ensures)
-    (next-way kview kview same? (range s) dataMode readOut (a .k) 0 _ _ _ (c .before .before .before .before .before .both .ensures)
-    (first-way kview kview same? (range s) dataMode readOut (a .k) _ (c .before .before .before .before .before .before .before .with-data .ensures))
-    (c .before .before .before .before .before .before .with-data2 .ensures))
-    (way kview kview same? (range s) (look readCount counted) _ _ _ _ _ (c .before .before .before .before .with-data3 .ensures) (c .before .before .before .counted-up2 .ensures)))
+    all-ways (cview cells) (cview cells) same? (range s) dataMode readOut (a .c) 3 _ (ap (λ p. range (sizes p) dataMode) (c .enum-told3 .given .1)) (ap stands (c .before .before .before .before .before .before .before .before .enum-told .given .1))
+    (next-way (cview cells) (cview cells) same? (range s) dataMode readOut (a .c) 1 _ _ _ (c .before .before .both2 .ensures cells)
+    (next-way (cview cells) (cview cells) same? (range s) dataMode readOut (a .c) 0 _ _ _ (c .before .before .before .before .before .both .ensures cells)
+    (first-way (cview cells) (cview cells) same? (range s) dataMode readOut (a .c) _ (c .before .before .before .before .before .before .before .with-data .ensures cells))
+    (c .before .before .before .before .before .before .with-data2 .ensures cells))
+    (way (cview cells) (cview cells) same? (range s) (look readCount counted) _ _ _ _ _ (c .before .before .before .before .with-data3 .ensures cells) (c .before .before .before .counted-up2 .ensures cells)))
 
 pub open-out-spec : {M : Type 1} → statement M
 open-out-spec =

@@ -7,8 +7,9 @@ use Rattle.knowing.specs.Ways.{known-way}
 use mathlib.Core.Path.{ap}
 use Rattle.segment.specs.Family.{sizes}
 use Rattle.segment.specs.Fact.{same?, range, readCount}
-use Rattle.segment_sent.specs.Report.{reports}
-use Rattle.segment_knowledge.specs.View.{kview}
+use Rattle.segment_sent.specs.Report.{bare, reports}
+use Rattle.segment_knowledge.specs.View.{cview}
+use Rattle.knowing.specs.Standing.{unknown}
 use borrow.Author.Needs.{needs}
 use Rattle.segment_sent.proofs.sent.keys_sent.Statement.{statement}
 use Rattle.segment_sent.proofs.sent.keys_sent.Tie as tie
@@ -23,15 +24,15 @@ enum-told : tie.Need-enum-told
 enum-told c = search needs
 
 returns : tie.Need-returns
-returns c = let a = c .before .before .before .before .args in
+returns c = λ cells. let a = c .before .before .before .before .args in
     let s = sizes (a .family) in
-    known-way kview reports same? (range s) readCount (keySent s) (a .k) (c .key-sent .result) _ (ap stands (c .before .before .count .given .1)) (c .key-sent .ensures)
+    known-way (cview cells) reports same? (range s) readCount (keySent s) (a .c) (c .key-sent .result) _ (ap stands (c .before .before .count .given .1)) (c .key-sent .ensures cells)
 
 returns-2 : tie.Need-returns-2
-returns-2 c = let a = c .before .before .args in
+returns-2 c = λ cells. let a = c .before .before .args in
     let s = sizes (a .family) in
     let r = keys-room (a .family) in
-    λ _. keys-unknown s (kview (a .k)) (ap stands (c .enum-told .given .1)) (r .0) (r .1) (first-key (a .family) (kview (a .k)) (c .before .before .pre))
+    λ _. keys-unknown s (cview cells (a .c)) (ap stands (c .enum-told .given .1)) (r .0) (r .1) (first-key (a .family) (bare (a .c)) (c .before .before .pre))
 
 pub keys-sent-spec : {M : Type 1} → statement M
 keys-sent-spec =

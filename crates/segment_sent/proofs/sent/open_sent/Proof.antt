@@ -9,7 +9,7 @@ use mathlib.Core.Path.{ap}
 use Rattle.segment.specs.Family.{sizes}
 use Rattle.segment.specs.Fact.{same?, range, dataMode}
 use Rattle.segment_sent.specs.Report.{reports}
-use Rattle.segment_knowledge.specs.View.{kview}
+use Rattle.segment_knowledge.specs.View.{cview}
 use borrow.Author.Needs.{needs}
 use Rattle.segment_sent.proofs.sent.open_sent.Statement.{statement}
 use Rattle.segment_sent.proofs.sent.open_sent.Tie as tie
@@ -27,9 +27,9 @@ sent-in-any-requires : tie.Need-sent-in-any-requires
 sent-in-any-requires c κs = (c .before .before .pre, ap stands (c .enum-told .given .1))
 
 returns : tie.Need-returns
-returns c = let a = c .before .before .before .before .args in
+returns c = λ cells. let a = c .before .before .before .before .args in
     let s = sizes (a .family) in
-    known-way kview reports same? (range s) dataMode (openSent s) (a .k) (c .sent-in .result) _ (ap stands (c .before .before .«data» .given .1)) (c .sent-in .ensures)
+    known-way (cview cells) reports same? (range s) dataMode (openSent s) (a .c) (c .sent-in .result) _ (ap stands (c .before .before .«data» .given .1)) (c .sent-in .ensures cells)
 
 returns-2 : tie.Need-returns-2
 returns-2 c = search needs

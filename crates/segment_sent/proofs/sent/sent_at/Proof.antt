@@ -9,7 +9,7 @@ use mathlib.Core.Path.{refl}
 use Rattle.segment.specs.Family.{sizes}
 use Rattle.segment.specs.Fact.{same?, range}
 use Rattle.segment_sent.specs.Report.{reports}
-use Rattle.segment_knowledge.specs.View.{kview}
+use Rattle.segment_knowledge.specs.View.{cview}
 use borrow.Author.Needs.{needs}
 use Rattle.segment_sent.proofs.sent.sent_at.Statement.{statement}
 use Rattle.segment_sent.proofs.sent.sent_at.Tie as tie
@@ -18,12 +18,12 @@ open-sent-requires : tie.Need-open-sent-requires
 open-sent-requires c κs = search needs
 
 returns : tie.Need-returns
-returns c = rw (c .before .match .keys1) (c .open-sent .ensures)
+returns c = λ cells. rw (c .before .match .keys1) (c .open-sent .ensures cells)
 
 returns-2 : tie.Need-returns-2
-returns-2 c = let a = c .before .args in
+returns-2 c = λ cells. let a = c .before .args in
     let s = sizes (a .family) in
-    as-rule kview reports same? (range s) (sentAt s (a .place)) (says (value notDriven)) (a .k) NotDriven (other-place _ _ (a .place) (c .match .rest .1)) (λ _. refl)
+    as-rule (cview cells) reports same? (range s) (sentAt s (a .place)) (says (value notDriven)) (a .c) NotDriven (other-place _ _ (a .place) (c .match .rest .1)) (λ _. refl)
 
 pub sent-at-spec : {M : Type 1} → statement M
 sent-at-spec = tie.close (tie.spec open-sent-requires returns returns-2)

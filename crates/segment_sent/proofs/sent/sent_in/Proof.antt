@@ -10,8 +10,8 @@ use Rattle.knowing.specs.Ways.{as-rule}
 use mathlib.Core.Path.{refl}
 use Rattle.segment.specs.Family.{sizes}
 use Rattle.segment.specs.Fact.{same?, range, dataMode}
-use Rattle.segment_sent.specs.Report.{reports}
-use Rattle.segment_knowledge.specs.View.{kview}
+use Rattle.segment_sent.specs.Report.{bare, reports}
+use Rattle.segment_knowledge.specs.View.{cview}
 use borrow.Author.Needs.{needs}
 use Rattle.segment_sent.proofs.sent.sent_in.Statement.{statement}
 use Rattle.segment_sent.proofs.sent.sent_in.Tie as tie
@@ -21,18 +21,18 @@ keys-sent-requires c κs = search needs
 
 switches-sent-requires : tie.Need-switches-sent-requires
 switches-sent-requires c κs = let a = c .before .args in
-    switched-in (a .family) (kview (a .k)) (subst (λ n. n < range (sizes (a .family)) dataMode) (c .match .keys2) (c .before .pre .1)) (c .before .pre .0)
+    switched-in (a .family) (bare (a .c)) (subst (λ n. n < range (sizes (a .family)) dataMode) (c .match .keys2) (c .before .pre .1)) (c .before .pre .0)
 
 returns : tie.Need-returns
-returns c = rw (c .before .match .keys1) (c .keys-sent .ensures)
+returns c = λ cells. rw (c .before .match .keys1) (c .keys-sent .ensures cells)
 
 returns-2 : tie.Need-returns-2
-returns-2 c = rw (c .before .match .keys2) (c .switches-sent .ensures)
+returns-2 c = λ cells. rw (c .before .match .keys2) (c .switches-sent .ensures cells)
 
 returns-3 : tie.Need-returns-3
-returns-3 c = let a = c .before .args in
+returns-3 c = λ cells. let a = c .before .args in
     let s = sizes (a .family) in
-    as-rule kview reports same? (range s) (openSent s (a .mode)) (says (value notDriven)) (a .k) NotDriven (other-mode (a .family) _ _ (a .mode) (c .before .pre .1) (c .match .rest .0 .1) (c .match .rest .1)) (λ _. refl)
+    as-rule (cview cells) reports same? (range s) (openSent s (a .mode)) (says (value notDriven)) (a .c) NotDriven (other-mode (a .family) _ _ (a .mode) (c .before .pre .1) (c .match .rest .0 .1) (c .match .rest .1)) (λ _. refl)
 
 pub sent-in-spec : {M : Type 1} → statement M
 sent-in-spec =

@@ -8,7 +8,8 @@ use mathlib.Core.Path.{ap}
 use Rattle.segment.specs.Family.{sizes}
 use Rattle.segment.specs.Fact.{same?, range, readCount}
 use Rattle.segment_sent.specs.Report.{reports}
-use Rattle.segment_knowledge.specs.View.{kview}
+use Rattle.segment_knowledge.specs.View.{cview}
+use Rattle.knowing.specs.Standing.{unknown}
 use borrow.Author.Needs.{needs}
 use Rattle.segment_sent.proofs.sent.switches_sent.Statement.{statement}
 use Rattle.segment_sent.proofs.sent.switches_sent.Tie as tie
@@ -23,14 +24,14 @@ enum-told : tie.Need-enum-told
 enum-told c = search needs
 
 returns : tie.Need-returns
-returns c = let a = c .before .before .before .before .args in
+returns c = λ cells. let a = c .before .before .before .before .args in
     let s = sizes (a .family) in
-    known-way kview reports same? (range s) readCount switchesSent (a .k) (c .switches-at .result) _ (ap stands (c .before .before .count .given .1)) (c .switches-at .ensures)
+    known-way (cview cells) reports same? (range s) readCount switchesSent (a .c) (c .switches-at .result) _ (ap stands (c .before .before .count .given .1)) (c .switches-at .ensures cells)
 
 returns-2 : tie.Need-returns-2
-returns-2 c = let a = c .before .before .args in
+returns-2 c = λ cells. let a = c .before .before .args in
     let s = sizes (a .family) in
-    λ _. switches-unknown s (kview (a .k)) (ap stands (c .enum-told .given .1)) (c .before .before .pre)
+    λ _. switches-unknown s (cview cells (a .c)) (ap stands (c .enum-told .given .1)) (c .before .before .pre)
 
 pub switches-sent-spec : {M : Type 1} → statement M
 switches-sent-spec =

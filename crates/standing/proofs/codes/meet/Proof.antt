@@ -2,7 +2,6 @@
 -- Assumes nothing.
 use borrow.Author.Needs.{scaled-fits}
 use Prim.Native.Nat.{_≤_, _-_}
-use Prim.Native.Nat.{_≤_, _-_}
 use mathlib.Core.Path.{_≡_, sym}
 use native.Mathlib.Omega.{arith}
 use Rattle.standing.specs.Codes.{Met, met-none, met-more}

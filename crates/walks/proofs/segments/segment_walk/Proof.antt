@@ -1,29 +1,38 @@
--- `walks::segments::segment_walk` meets its contract: what is left of the walk makes of the knowledge so far what the whole walk makes of the first one.
+-- `walks::segments::segment_walk` meets its contract: what is left of the walk makes of the knowledge so far, which stands in the cells and beside them, what the whole walk makes of the first one.
 -- Assumes nothing.
-use Prim.Native.Nat.{_+_, _≤_, _-_}
 use borrow.Author.Needs.{needs}
-use mathlib.Core.Path.{refl, sym, _∙_}
+use Prim.Native.Nat.{_+_, _≤_, _-_}
 use native.Mathlib.Omega.{arith}
-use Prim.Native.Nat.{_≤_, _-_}
+use mathlib.Core.Path.{_≡_, refl, sym, _∙_, subst}
 use lib.ListN.{length, drop, length-drop}
 use Rattle.recording.specs.Steps.{rest, rest-end, rest-next, rest-stops, record-fits}
 use Rattle.recording.specs.Walk.{walked, done, next}
-use Rattle.walks.specs.Kept.{Kept, kept-start, kept-next, kept-as, kept-done, kept-stops}
-use Rattle.segment_knowledge.specs.View.{kview}
-use Rattle.segment.specs.Move.{move}
 use Rattle.segment.specs.Fact.{same?, range}
 use Rattle.segment.specs.Family.{sizes}
+use Rattle.segment.specs.Move.{move}
+use Rattle.terms.specs.declared.Event.the-variants.{ByteIn}
+use Rattle.segment_knowledge.specs.declared.knowledge.Knowledge.{Knowledge}
+use Rattle.segment_knowledge.specs.View.{held, kview}
+use mathlib.Core.Logic.{⊎-elim}
+use Rattle.segment.specs.Laws.{room}
+use Rattle.segment_known.specs.declared.everyday.Target.{Target}
+use Rattle.segment_known.specs.Everyday.{Counting, Hits, counted, roamed}
+use Rattle.segment_known.specs.Moved.{step-done}
+use Rattle.walks.specs.Arrives.{Arrives, arrived}
+use Rattle.walks.specs.Kept.{Kept, kept-start, kept-next, kept-as, kept-done, kept-stops}
 use Rattle.walks.proofs.segments.segment_walk.Statement.{statement}
 use Rattle.walks.proofs.segments.segment_walk.Tie as tie
 
 abbrev Inv-loop : tie.InvT-loop
-Inv-loop part family k bytes known₀ i₀ known i = (i ≤ length bytes) × Kept kview same? (range (sizes family)) (move (sizes family)) (walked part bytes) k (rest part bytes i) known
+Inv-loop part family k bytes cells₀ control₀ i₀ cells control i =
+    ((i ≤ length bytes) × Kept kview same? (range (sizes family)) (move (sizes family)) (walked part bytes) k (rest part bytes i) (record { cells = cells; control = control })) × (length cells ≡ 36)
 
 abbrev μ-loop : tie.MeasureT-loop
-μ-loop part family k bytes known₀ i₀ known i = length bytes - i
+μ-loop part family k bytes cells₀ control₀ i₀ cells control i = length bytes - i
 
 loop-holds : tie.Need-loop-holds Inv-loop μ-loop
-loop-holds c = (omega arith, kept-start kview same? (range (sizes (c .before .args .family))) (move (sizes (c .before .args .family))) (walked (c .before .args .part) (c .before .args .bytes .now)) (c .before .args .k))
+loop-holds c = let a = c .before .before .before .args in
+    ((omega arith, kept-start kview same? (range (sizes (a .family))) (move (sizes (a .family))) (walked (a .part) (a .bytes .now)) (a .k)), search needs)
 
 record-at-requires : tie.Need-record-at-requires Inv-loop μ-loop
 record-at-requires c κs = c .loop-test .taken
@@ -31,46 +40,123 @@ record-at-requires c κs = c .loop-test .taken
 enum-known-read : tie.Need-enum-known-read Inv-loop μ-loop
 enum-known-read c = search needs
 
-moved-requires : tie.Need-moved-requires Inv-loop μ-loop
-moved-requires c κs = search needs
+enum-told : tie.Need-enum-told Inv-loop μ-loop
+enum-told c = search needs
+
+falls-requires : tie.Need-falls-requires Inv-loop μ-loop
+falls-requires c κs = search needs
+
+enum-told-2 : tie.Need-enum-told-2 Inv-loop μ-loop
+enum-told-2 c = search needs
+
+rises-requires : tie.Need-rises-requires Inv-loop μ-loop
+rises-requires c κs = search needs
+
+enum-known-event : tie.Need-enum-known-event Inv-loop μ-loop
+enum-known-event c = search needs
+
+goes-to-requires : tie.Need-goes-to-requires Inv-loop μ-loop
+goes-to-requires c κs = search needs
+
+enum-known-to : tie.Need-enum-known-to Inv-loop μ-loop
+enum-known-to c = search needs
+
+slice-aggregate-put : tie.Need-slice-aggregate-put Inv-loop μ-loop
+slice-aggregate-put c = search needs
+
+put-requires : tie.Need-put-requires Inv-loop μ-loop
+put-requires c κs = let h : Counting (sizes (c .before .before .before .before .before .before .before .before .before .before .before .before .before .before .before .before .before .args .family)) (c .before .before .before .before .before .before .before .before .before .before .before .before .before .loop .control) (c .before .before .to .given .0 .0 .0) = subst (λ (t : Target). Hits (sizes (c .before .before .before .before .before .before .before .before .before .before .before .before .before .before .before .before .before .args .family)) (c .before .before .before .before .before .before .before .before .before .before .before .before .before .loop .control) t) (c .before .before .to .given .1) (c .before .before .before .before .goes-to .ensures) in
+    omega (arith, h .inside, room (c .before .before .before .before .before .before .before .before .before .before .before .before .before .before .before .before .before .args .family) .0, c .before .before .before .before .before .before .before .before .before .before .before .before .before .loop .inv .1)
+
+counted-on-requires : tie.Need-counted-on-requires Inv-loop μ-loop
+counted-on-requires c κs = subst (λ (t : Target). Hits (sizes (c .before .before .before .before .before .before .before .before .before .before .before .before .before .before .before .before .before .before .before .args .family)) (c .before .before .before .before .before .before .before .before .before .before .before .before .before .before .before .loop .control) t) (c .before .before .before .before .to .given .1) (c .before .before .before .before .before .before .goes-to .ensures)
+
+enum-told-3 : tie.Need-enum-told-3 Inv-loop μ-loop
+enum-told-3 c = search needs
+
+slice-aggregate-meets : tie.Need-slice-aggregate-meets Inv-loop μ-loop
+slice-aggregate-meets c = search needs
+
+meets-requires : tie.Need-meets-requires Inv-loop μ-loop
+meets-requires c κs = search needs
+
+enum-told-4 : tie.Need-enum-told-4 Inv-loop μ-loop
+enum-told-4 c = search needs
+
+slice-aggregate-taken : tie.Need-slice-aggregate-taken Inv-loop μ-loop
+slice-aggregate-taken c = search needs
+
+taken-requires : tie.Need-taken-requires Inv-loop μ-loop
+taken-requires c κs = search needs
+
+slice-aggregate-taken-2 : tie.Need-slice-aggregate-taken-2 Inv-loop μ-loop
+slice-aggregate-taken-2 c = search needs
+
+taken-requires-2 : tie.Need-taken-requires-2 Inv-loop μ-loop
+taken-requires-2 c κs = search needs
 
 add-i : tie.Need-add-i Inv-loop μ-loop
-add-i c = let a = c .before .before .before .before .before .before .before .before .args in
-    let f = record-fits (a .part) (drop (c .before .before .before .before .before .before .loop .i) (a .bytes .now)) (c .before .before .read .given .0 .0) (c .before .before .read .given .0 .1 .0) (sym (c .before .before .before .before .record-at .ensures) ∙ c .before .before .read .given .1) in
-    let d = length-drop (c .before .before .before .before .before .before .loop .i) (a .bytes .now) in
-    record { fits = omega (arith, f, d, c .before .before .before .before .before .loop-test .taken, c .before .before .before .before .before .before .before .before .good .1 .1 .1 .0) }
+add-i c = let a = c .before .before .before .before .before .before .before .before .before .before .args in
+    let at = c .before .before .before .before .before .before .loop in
+    let read = c .before .before .read .given in
+    let e = sym (c .before .before .before .before .record-at .ensures) ∙ read .1 in
+    let f = record-fits (a .part) (drop (at .i) (a .bytes .now)) (read .0 .0) (read .0 .1 .0) e in
+    let d = length-drop (at .i) (a .bytes .now) in
+    record { fits = omega (arith, f, d, c .before .before .before .before .before .loop-test .taken, c .before .before .before .before .before .before .before .before .before .before .good .1 .1 .1 .0) }
 
 loop-less : tie.Need-loop-less Inv-loop μ-loop
-loop-less c = let a = c .before .before .before .before .before .before .before .before .args in
-    let f = record-fits (a .part) (drop (c .before .before .before .before .before .before .loop .i) (a .bytes .now)) (c .before .before .read .given .0 .0) (c .before .before .read .given .0 .1 .0) (sym (c .before .before .before .before .record-at .ensures) ∙ c .before .before .read .given .1) in
-    let d = length-drop (c .before .before .before .before .before .before .loop .i) (a .bytes .now) in
+loop-less c = let a = c .before .before .before .before .before .before .before .before .before .before .args in
+    let at = c .before .before .before .before .before .before .loop in
+    let read = c .before .before .read .given in
+    let e = sym (c .before .before .before .before .record-at .ensures) ∙ read .1 in
+    let f = record-fits (a .part) (drop (at .i) (a .bytes .now)) (read .0 .0) (read .0 .1 .0) e in
+    let d = length-drop (at .i) (a .bytes .now) in
     omega (arith, f, d, c .before .before .before .before .before .loop-test .taken)
 
 loop-again : tie.Need-loop-again Inv-loop μ-loop
-loop-again c = let a = c .before .before .before .before .before .before .before .before .args in
-    let f = record-fits (a .part) (drop (c .before .before .before .before .before .before .loop .i) (a .bytes .now)) (c .before .before .read .given .0 .0) (c .before .before .read .given .0 .1 .0) (sym (c .before .before .before .before .record-at .ensures) ∙ c .before .before .read .given .1) in
-    let d = length-drop (c .before .before .before .before .before .before .loop .i) (a .bytes .now) in
+loop-again c = let a = c .before .before .before .before .before .before .before .before .before .before .args in
+    let at = c .before .before .before .before .before .before .loop in
+    let read = c .before .before .read .given in
+    let e = sym (c .before .before .before .before .record-at .ensures) ∙ read .1 in
+    let f = record-fits (a .part) (drop (at .i) (a .bytes .now)) (read .0 .0) (read .0 .1 .0) e in
+    let d = length-drop (at .i) (a .bytes .now) in
     let w = walked (a .part) (a .bytes .now) in
-    let h = rest-next (a .part) (a .bytes .now) (c .before .before .before .before .before .before .loop .i) (c .before .before .read .given .0 .0) (c .before .before .read .given .0 .1 .0) (c .before .before .before .before .before .loop-test .taken) (sym (c .before .before .before .before .record-at .ensures) ∙ c .before .before .read .given .1) in
-    (omega (arith, f, d, c .before .before .before .before .before .loop-test .taken), kept-next kview same? (range (sizes (c .before .before .before .before .before .before .before .before .args .family))) (move (sizes (c .before .before .before .before .before .before .before .before .args .family))) w (a .k) (c .before .before .before .before .before .before .loop .i) (c .before .before .read .given .0 .0) (rest (a .part) (a .bytes .now) ((c .before .before .before .before .before .before .loop .i) + (c .before .before .read .given .0 .1 .0))) (c .before .before .before .before .before .before .loop .known) (c .moved .result) (kept-as kview same? (range (sizes (c .before .before .before .before .before .before .before .before .args .family))) (move (sizes (c .before .before .before .before .before .before .before .before .args .family))) w (a .k) (rest (a .part) (a .bytes .now) (c .before .before .before .before .before .before .loop .i)) (next (c .before .before .before .before .before .before .loop .i) (c .before .before .read .given .0 .0) (rest (a .part) (a .bytes .now) ((c .before .before .before .before .before .before .loop .i) + (c .before .before .read .given .0 .1 .0)))) (c .before .before .before .before .before .before .loop .known) h (c .before .before .before .before .before .before .loop .inv .1)) (c .moved .ensures))
+    let behind = rest (a .part) (a .bytes .now) (at .i + read .0 .1 .0) in
+    let h = rest-next (a .part) (a .bytes .now) (at .i) (read .0 .0) (read .0 .1 .0) (c .before .before .before .before .before .loop-test .taken) e in
+    let k : Knowledge = record { cells = at .cells; control = at .control } in
+    let size = at .inv .1 in
+    let arm : Arrives (a .family) k (read .0 .0) (c .match2 .cells) (c .match2 .control) = ⊎-elim
+    (λ x. arrived (a .family) k (x .1 .given .1) (x .3) (x .4) size (x .2 .ensures (sizes (a .family)) (held (at .cells))))
+    (⊎-elim
+    (λ x. arrived (a .family) k (x .1 .given .1) (x .3) (x .4) size (x .2 .ensures (sizes (a .family)) (held (at .cells))))
+    (⊎-elim
+    (λ x. arrived (a .family) k (x .1 .given .1) (x .11) (x .12) (x .9 .given) (step-done (a .family) k (ByteIn (x .1 .given .0 .0)) _ (x .8 .last .0) (x .10 .ensures (x .1 .given .0 .0)) (x .8 .ensures)))
+    (⊎-elim
+    (λ x. arrived (a .family) k (x .1 .given .1) (x .9) (x .10) (x .8 .given) (step-done (a .family) k (ByteIn (x .1 .given .0 .0)) _ (x .7 .last .1 .0) (roamed (a .family) (at .control) (x .1 .given .0 .0) (subst (λ (t : Target). Hits (sizes (a .family)) (at .control) t) (x .5 .given .1) (x .3 .ensures))) (x .7 .ensures)))
+    (⊎-elim
+    (λ x. arrived (a .family) k (x .1 .given .1) (x .9) (x .10) (x .8 .given) (x .7 .ensures))
+    (λ x. arrived (a .family) k refl (x .4) (x .5) (x .3 .given) (x .2 .ensures)))))) (c .match2 .came) in
+    ((omega (arith, f, d, c .before .before .before .before .before .loop-test .taken), kept-next kview same? (range (sizes (a .family))) (move (sizes (a .family))) w (a .k) (at .i) (read .0 .0) behind k _ (kept-as kview same? (range (sizes (a .family))) (move (sizes (a .family))) w (a .k) (rest (a .part) (a .bytes .now) (at .i)) (next (at .i) (read .0 .0) behind) k h (at .inv .0 .1)) (arm .knows)), arm .size)
 
 enum-known-read-2 : tie.Need-enum-known-read-2 Inv-loop μ-loop
 enum-known-read-2 c = search needs
 
 returns : tie.Need-returns Inv-loop μ-loop
-returns c = let a = c .before .before .before .before .before .before .before .args in
+returns c = let a = c .before .before .before .before .before .before .before .before .before .args in
+    let at = c .before .before .before .before .before .loop in
     let w = walked (a .part) (a .bytes .now) in
-    let h = rest-stops (a .part) (a .bytes .now) (c .before .before .before .before .before .loop .i) _ (c .before .before .before .before .loop-test .taken) (sym (c .before .before .before .record-at .ensures) ∙ c .before .read2 .given .1) in
+    let h = rest-stops (a .part) (a .bytes .now) (at .i) _ (c .before .before .before .before .loop-test .taken) (sym (c .before .before .before .record-at .ensures) ∙ c .before .read2 .given .1) in
     record {
-      ended = kept-stops kview same? (range (sizes (c .before .before .before .before .before .before .before .args .family))) (move (sizes (c .before .before .before .before .before .before .before .args .family))) w (a .k) (c .before .before .before .before .before .loop .known) _ (c .before .before .before .before .before .loop .i) (kept-as kview same? (range (sizes (c .before .before .before .before .before .before .before .args .family))) (move (sizes (c .before .before .before .before .before .before .before .args .family))) w (a .k) (rest (a .part) (a .bytes .now) (c .before .before .before .before .before .loop .i)) _ (c .before .before .before .before .before .loop .known) h (c .before .before .before .before .before .loop .inv .1));
+      ended = kept-stops kview same? (range (sizes (a .family))) (move (sizes (a .family))) w (a .k) _ _ (at .i) (kept-as kview same? (range (sizes (a .family))) (move (sizes (a .family))) w (a .k) (rest (a .part) (a .bytes .now) (at .i)) _ _ h (at .inv .0 .1));
       left = refl;
     }
 
 returns-2 : tie.Need-returns-2 Inv-loop μ-loop
-returns-2 c = let a = c .before .before .before .args in
+returns-2 c = let a = c .before .before .before .before .before .args in
+    let at = c .before .loop in
     let w = walked (a .part) (a .bytes .now) in
-    let h = rest-end (a .part) (a .bytes .now) (c .before .loop .i) (c .loop-test .left) in
-    let d = kept-done kview same? (range (sizes (c .before .before .before .args .family))) (move (sizes (c .before .before .before .args .family))) w (a .k) (c .before .loop .known) (kept-as kview same? (range (sizes (c .before .before .before .args .family))) (move (sizes (c .before .before .before .args .family))) w (a .k) (rest (a .part) (a .bytes .now) (c .before .loop .i)) done (c .before .loop .known) h (c .before .loop .inv .1)) in
+    let h = rest-end (a .part) (a .bytes .now) (at .i) (c .loop-test .left) in
+    let d = kept-done kview same? (range (sizes (a .family))) (move (sizes (a .family))) w (a .k) _ (kept-as kview same? (range (sizes (a .family))) (move (sizes (a .family))) w (a .k) (rest (a .part) (a .bytes .now) (at .i)) done _ h (at .inv .0 .1)) in
     record { ended = d .0; left = d .1 }
 
 pub segment-walk-spec : {M : Type 1} → statement M
@@ -82,7 +168,24 @@ segment-walk-spec =
     loop-holds
     record-at-requires
     enum-known-read
-    moved-requires
+    enum-told
+    falls-requires
+    enum-told-2
+    rises-requires
+    enum-known-event
+    goes-to-requires
+    enum-known-to
+    slice-aggregate-put
+    put-requires
+    counted-on-requires
+    enum-told-3
+    slice-aggregate-meets
+    meets-requires
+    enum-told-4
+    slice-aggregate-taken
+    taken-requires
+    slice-aggregate-taken-2
+    taken-requires-2
     add-i
     loop-less
     loop-again

@@ -1,0 +1,53 @@
+// What is known of a panel beside its memory: what an event goes by, small enough to be handed on by value.
+use standing::Standing;
+use terms::Address;
+ghost use mathlib.Core.Path.{_≡_};
+ghost use Rattle.knowing.specs.Standing.{unknown};
+ghost use Rattle.knowing.specs.Ways.{Learns};
+ghost use Rattle.character.specs.Fact.{Fact, same?, position};
+ghost use Rattle.character_knowledge.specs.View.{Memory, blank, cview};
+
+// The address in a RAM: known or unknown.
+pub enum Pointing {
+    At(Address),
+    Unknown,
+}
+
+pub struct Control {
+    pub dcram_at: Pointing,
+    pub cgram_at: Pointing,
+    pub adram_at: Pointing,
+    pub column: Standing,
+    pub port: Standing,
+    pub duty: Standing,
+    pub digits: Standing,
+    pub lights: Standing,
+    pub position: Standing,
+}
+
+// Nothing is known.
+pub fn no_control() -> Control
+    ensures { λ r. ⌜ ((f : Fact) → cview blank r f ≡ unknown) ⌝ }
+{
+    Control {
+        dcram_at: Pointing::Unknown,
+        cgram_at: Pointing::Unknown,
+        adram_at: Pointing::Unknown,
+        column: Standing::Unknown,
+        port: Standing::Unknown,
+        duty: Standing::Unknown,
+        digits: Standing::Unknown,
+        lights: Standing::Unknown,
+        position: Standing::Unknown,
+    }
+}
+
+// The same with the position known.
+pub fn at(c: Control, place: u8) -> Control
+    ensures { λ r. ⌜ ((m : Memory) → Learns (cview m) same? position place c r) ⌝ }
+{
+    Control {
+        position: Standing::Known(place),
+        ..c
+    }
+}

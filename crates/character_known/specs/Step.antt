@@ -1,0 +1,56 @@
+-- What an event makes of a knowledge, told in two: the facts beside the memory, and what happens to each RAM.
+use mathlib.Core.Path.{_≡_}
+use Rattle.rules.specs.Rule.{Rule}
+use Rattle.knowing.specs.Standing.{Standing}
+use Rattle.knowing.specs.Ways as Ways
+use Rattle.standing.specs.declared.change.Change.the-variants.{Keep, Forget}
+use Rattle.standing.specs.Change.{seen, Inside, joined, Plain}
+use Rattle.character.specs.Fact.{Fact, same?, range}
+use Rattle.character_knowledge.specs.declared.control.Control.{Control}
+use Rattle.character_knowledge.specs.View.{Memory, blank, cview}
+use Rattle.character_known.specs.declared.steps.Step.{Step}
+
+-- What is known of the memory after a step.
+abbrev pub after : Step → Memory → Memory
+after r m = record {
+  dcram = λ i. seen (r .dcram) i (m .dcram i);
+  cgram = λ i. seen (r .cgram) i (m .cgram i);
+  adram = λ i. seen (r .adram) i (m .adram i);
+}
+
+-- What is known after a step, by what was known of the memory before it.
+abbrev pub sview : Memory → Step → Fact → Standing
+sview m r = cview (after r m) (r .control)
+
+-- Each change stays within its RAM.
+abbrev pub AllInside : Step → Type 0
+AllInside r = Inside 16 (r .dcram) × (Inside 40 (r .cgram) × Inside 16 (r .adram))
+
+-- The step r is what the rule makes of c, whatever is known of the memory, and it stays within it.
+pub record Steps (rule : Rule Fact Fact) (c : Control) (r : Step) : Type 0 where
+  pub knows : (m : Memory) → Ways.Knows (cview m) (sview m) same? range rule c r
+  pub inside : AllInside r
+
+-- The same where the memory stays, and where it is forgotten.
+abbrev pub Keeps : Rule Fact Fact → Control → Control → Type 0
+Keeps rule c r = (m : Memory) → Ways.Knows (cview m) (cview m) same? range rule c r
+
+abbrev pub Forgets : Rule Fact Fact → Control → Control → Type 0
+Forgets rule c r = (m : Memory) → Ways.Knows (cview m) (cview blank) same? range rule c r
+
+abbrev pub keptOf : Control → Step
+keptOf c = record { control = c; dcram = Keep; cgram = Keep; adram = Keep }
+
+abbrev pub forgottenOf : Control → Step
+forgottenOf c = record { control = c; dcram = Forget; cgram = Forget; adram = Forget }
+
+-- The step r has in common what a and b have.
+pub record Both (a b r : Step) : Type 0 where
+  pub control : (m : Memory) → Ways.Joins (cview m) (a .control) (b .control) (r .control)
+  pub dcram : r .dcram ≡ joined (a .dcram) (b .dcram)
+  pub cgram : r .cgram ≡ joined (a .cgram) (b .cgram)
+  pub adram : r .adram ≡ joined (a .adram) (b .adram)
+
+-- Each RAM stays or is forgotten.
+abbrev pub AllPlain : Step → Type 0
+AllPlain r = Plain (r .dcram) × (Plain (r .cgram) × Plain (r .adram))

@@ -1,0 +1,103 @@
+-- Laws of steps: a control that keeps or forgets the memory is a step; a rule that looks at a known fact goes its one way; two steps that can be told
+-- together have in common, fact by fact, what both have; and a step done to the rows makes of a knowledge what the rule makes of it.
+use Prim.Native.Nat.{ℕ, suc}
+use mathlib.Core.Path.{_≡_, ap, _∙_, subst⁻¹}
+use mathlib.Core.List.{List}
+use Rattle.rules.specs.Rule.{Rule, look}
+use Rattle.knowing.specs.Standing.{known, unknown}
+use Rattle.knowing.specs.Know.{join}
+use Rattle.knowing.specs.Ways as Ways
+use Rattle.standing.specs.declared.change.Change.{Change}
+use Rattle.standing.specs.Change.{seen, Changes, Inside, joined, Together, Plain}
+use Rattle.standing.specs.Together.{joined-seen, joined-inside, plain-together, together-plain, plain-joined}
+use Rattle.character.specs.Fact.{Fact, same?, range, dcram, cgram, adram, dcramAt, cgramAt, adramAt, column, port, duty, digits, lights, position}
+use Rattle.character.specs.Laws.{every}
+use Rattle.character_knowledge.specs.declared.control.Control.{Control}
+use Rattle.character_knowledge.specs.declared.knowledge.Knowledge.{Knowledge}
+use Rattle.character_knowledge.specs.View.{Memory, cview, memory, Knows}
+use Rattle.character_known.specs.declared.steps.Step.{Step}
+use Rattle.character_known.specs.Step.{sview, AllInside, Steps, Keeps, Forgets, keptOf, forgottenOf, Both, AllPlain}
+
+pub kept-steps : {rule : Rule Fact Fact} {c d : Control} {r : Step} → r ≡ keptOf d → Keeps rule c d → Steps rule c r
+kept-steps {rule} {c} {d} {r} e h = subst⁻¹ (λ (x : Step). Steps rule c x) e (record { knows = h; inside = (tt, (tt, tt)) })
+
+pub forgotten-steps : {rule : Rule Fact Fact} {c d : Control} {r : Step} → r ≡ forgottenOf d → Forgets rule c d → Steps rule c r
+forgotten-steps {rule} {c} {d} {r} e h = subst⁻¹ (λ (x : Step). Steps rule c x) e (record { knows = h; inside = (tt, (tt, tt)) })
+
+pub kept-plain : {d : Control} {r : Step} → r ≡ keptOf d → AllPlain r
+kept-plain e = subst⁻¹ (λ (x : Step). AllPlain x) e (tt, (tt, tt))
+
+pub forgotten-plain : {d : Control} {r : Step} → r ≡ forgottenOf d → AllPlain r
+forgotten-plain e = subst⁻¹ (λ (x : Step). AllPlain x) e (tt, (tt, tt))
+
+-- A rule that is another, in name.
+pub same-rule : {a b : Rule Fact Fact} {c : Control} {r : Step} → a ≡ b → Steps b c r → Steps a c r
+same-rule {a} {b} {c} {r} e h = subst⁻¹ (λ (x : Rule Fact Fact). Steps x c r) e h
+
+-- Two steps can be told together, RAM by RAM.
+abbrev pub AllTogether : Step → Step → Type 0
+AllTogether a b = Together (a .dcram) (b .dcram) × (Together (a .cgram) (b .cgram) × Together (a .adram) (b .adram))
+
+-- They can where one of them is plain, RAM by RAM.
+pub plain-first : (a b : Step) → AllPlain a → AllTogether a b
+plain-first a b p = (plain-together (a .dcram) (b .dcram) (p .0), (plain-together (a .cgram) (b .cgram) (p .1 .0), plain-together (a .adram) (b .adram) (p .1 .1)))
+
+pub plain-second : (a b : Step) → AllPlain b → AllTogether a b
+plain-second a b p = (together-plain (a .dcram) (b .dcram) (p .0), (together-plain (a .cgram) (b .cgram) (p .1 .0), together-plain (a .adram) (b .adram) (p .1 .1)))
+
+pub plain-both : (x y : Change) {z : Change} → z ≡ joined x y → Plain x → Plain y → Plain z
+plain-both x y e p q = subst⁻¹ (λ (c : Change). Plain c) e (plain-joined x y p q)
+
+both-joins : {a b r : Step} → AllTogether a b → Both a b r → (m : Memory) → Ways.Joins (sview m) a b r
+both-joins {a} {b} {r} t h m =
+    let e = h .control m in
+    every (λ (f : Fact). sview m r f ≡ join (sview m a f) (sview m b f))
+    (λ i. ap (λ (x : Change). seen x i (m .dcram i)) (h .dcram) ∙ joined-seen (a .dcram) (b .dcram) (t .0) i (m .dcram i))
+    (λ i. ap (λ (x : Change). seen x i (m .cgram i)) (h .cgram) ∙ joined-seen (a .cgram) (b .cgram) (t .1 .0) i (m .cgram i))
+    (λ i. ap (λ (x : Change). seen x i (m .adram i)) (h .adram) ∙ joined-seen (a .adram) (b .adram) (t .1 .1) i (m .adram i))
+    (e dcramAt) (e cgramAt) (e adramAt) (e column) (e port) (e duty) (e digits) (e lights) (e position)
+
+both-inside : {a b r : Step} → Both a b r → AllInside a → AllInside b → AllInside r
+both-inside {a} {b} {r} h p q = (
+  subst⁻¹ (λ (x : Change). Inside 16 x) (h .dcram) (joined-inside 16 (a .dcram) (b .dcram) (p .0) (q .0)),
+  (
+    subst⁻¹ (λ (x : Change). Inside 40 x) (h .cgram) (joined-inside 40 (a .cgram) (b .cgram) (p .1 .0) (q .1 .0)),
+    subst⁻¹ (λ (x : Change). Inside 16 x) (h .adram) (joined-inside 16 (a .adram) (b .adram) (p .1 .1) (q .1 .1)),
+  ),
+)
+
+-- The ways of a look, as steps.
+module _ (g : Fact) (κ : ℕ → Rule Fact Fact) (c : Control) where
+  pub known-step : (r : Step) (v : ℕ) → ((m : Memory) → cview m c g ≡ known v) → Steps (κ v) c r → Steps (look g κ) c r
+  known-step r v e h = record { knows = λ m. Ways.known-way (cview m) (sview m) same? range g κ c r v (e m) (h .knows m); inside = h .inside }
+
+  -- The way of the value v, and what the first n ways have in common.
+  pub record Goes (v : ℕ) (r : Step) : Type 0 where
+    pub way : (m : Memory) → Ways.Way (cview m) (sview m) same? range (κ v) c g v r
+    pub inside : AllInside r
+
+  pub record Gathers (n : ℕ) (r : Step) : Type 0 where
+    pub ways : (m : Memory) → Ways.Gathers (cview m) (sview m) same? range g κ c n r
+    pub inside : AllInside r
+
+  pub goes : (v : ℕ) (l : Control) (r : Step) → ((m : Memory) → Ways.Learns (cview m) same? g v c l) → Steps (κ v) l r → Goes v r
+  goes v l r e h = record { way = λ m. Ways.way (cview m) (sview m) same? range (κ v) c l r g v (e m) (h .knows m); inside = h .inside }
+
+  pub first-step : (r : Step) → Goes 0 r → Gathers 1 r
+  first-step r h = record { ways = λ m. Ways.first-way (cview m) (sview m) same? range g κ c r (h .way m); inside = h .inside }
+
+  pub next-step : (n : ℕ) (a b r : Step) → Both a b r → AllTogether a b → Gathers (suc n) a → Goes (suc n) b → Gathers (suc (suc n)) r
+  next-step n a b r e t h p = record {
+    ways = λ m. Ways.next-way (cview m) (sview m) same? range g κ c n a b r (both-joins t e m) (h .ways m) (p .way m);
+    inside = both-inside e (h .inside) (p .inside);
+  }
+
+  pub all-steps : (n : ℕ) (r : Step) → range g ≡ n → ((m : Memory) → cview m c g ≡ unknown) → Gathers n r → Steps (look g κ) c r
+  all-steps n r e u h = record { knows = λ m. Ways.all-ways (cview m) (sview m) same? range g κ c n r e (u m) (h .ways m); inside = h .inside }
+
+-- The step is done to the rows.
+pub applied : (rule : Rule Fact Fact) (k : Knowledge) (s : Step) (d g a : List ℕ) → Steps rule (k .control) s → Changes (s .dcram) (k .dcram) d → Changes (s .cgram) (k .cgram) g → Changes (s .adram) (k .adram) a
+    → Knows rule k (record { dcram = d; cgram = g; adram = a; control = s .control })
+applied rule k s d g a h p q r =
+    let e = h .knows (memory k) in
+    every _ (λ i. p i ∙ e (dcram i)) (λ i. q i ∙ e (cgram i)) (λ i. r i ∙ e (adram i)) (e dcramAt) (e cgramAt) (e adramAt) (e column) (e port) (e duty) (e digits) (e lights) (e position)

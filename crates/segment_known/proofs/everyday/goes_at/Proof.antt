@@ -1,0 +1,54 @@
+-- `segment_known::everyday::goes_at` meets its contract: a known cell before the last is hit where the stepping counts, and an unknown address anywhere.
+-- Assumes nothing.
+use native.Mathlib.Omega.{arith}
+use mathlib.Core.Path.{ap, sym}
+use Rattle.segment_knowledge.specs.View.{points}
+use Rattle.segment_known.specs.Ways.{cells-room}
+use borrow.Author.Needs.{needs}
+use Rattle.segment_known.proofs.everyday.goes_at.Statement.{statement}
+use Rattle.segment_known.proofs.everyday.goes_at.Tie as tie
+
+enum-known-address : tie.Need-enum-known-address
+enum-known-address c = search needs
+
+sizes-requires : tie.Need-sizes-requires
+sizes-requires c κs = search needs
+
+sub-if2 : tie.Need-sub-if2
+sub-if2 c = omega (arith, rw (sym (c .before .before .sizes .ensures)) at (cells-room (c .before .before .before .before .before .before .args .family)))
+
+returns : tie.Need-returns
+returns c = (c .before .before .before .if1 .taken, (ap points (c .before .before .before .before .before .before .address .given .1), omega (arith, rw (c .before .before .before .before .sizes .ensures) at (c .if2 .taken))))
+
+enum-told : tie.Need-enum-told
+enum-told c = search needs
+
+enum-told-2 : tie.Need-enum-told-2
+enum-told-2 c = search needs
+
+returns-2 : tie.Need-returns-2
+returns-2 c = search needs
+
+returns-3 : tie.Need-returns-3
+returns-3 c = search needs
+
+returns-4 : tie.Need-returns-4
+returns-4 c = search needs
+
+returns-5 : tie.Need-returns-5
+returns-5 c = search needs
+
+pub goes-at-spec : {M : Type 1} → statement M
+goes-at-spec =
+    tie.close
+    (tie.spec
+    enum-known-address
+    sizes-requires
+    sub-if2
+    returns
+    enum-told
+    enum-told-2
+    returns-2
+    returns-3
+    returns-4
+    returns-5)

@@ -1,0 +1,18 @@
+-- `segment_known::moves::lost` meets its contract: nothing is known of the memory, and nothing beside it.
+-- Assumes nothing.
+use Rattle.segment_known.specs.StepLaws.{forgotten-steps}
+use borrow.Author.Needs.{needs}
+use Rattle.segment_known.proofs.moves.lost.Statement.{statement}
+use Rattle.segment_known.proofs.moves.lost.Tie as tie
+
+no-control-requires : tie.Need-no-control-requires
+no-control-requires c κs = search needs
+
+forgotten-requires : tie.Need-forgotten-requires
+forgotten-requires c κs = search needs
+
+returns : tie.Need-returns
+returns c = forgotten-steps (c .forgotten .ensures) (λ cells. c .before .no-control .ensures)
+
+pub lost-spec : {M : Type 1} → statement M
+lost-spec = tie.close (tie.spec no-control-requires forgotten-requires returns)

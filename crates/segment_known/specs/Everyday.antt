@@ -1,0 +1,102 @@
+-- A data byte that goes to a known cell with another behind it: everything that its rule looks at is known.
+use Prim.Native.Nat.{ℕ, suc, _+_, _<_}
+use native.Mathlib.Omega.{arith}
+use mathlib.Core.Path.{_≡_, refl}
+use borrow.Author.Tests.{lt-ltb}
+use Rattle.rules.specs.Rule.{look}
+use mathlib.Core.Bool.{Bool, true}
+use Rattle.knowing.specs.Standing.{Standing, known, unknown}
+use Rattle.standing.specs.View.{stands}
+use Rattle.standing.specs.declared.change.Change.the-variants.{Put, Meet}
+use Rattle.terms.specs.declared.Address.{Address}
+use Rattle.terms.specs.declared.Event.the-variants.{ByteIn}
+use Rattle.segment.specs.declared.chip.Sizes.{Sizes}
+use Rattle.segment.specs.declared.chip.Family.{Family}
+use Rattle.segment.specs.declared.chip.Position.the-variants.{Open}
+use Rattle.segment.specs.declared.chip.Data.the-variants.{WriteDisplay}
+use Rattle.segment.specs.declared.chip.Stepping.the-variants.{Increment}
+use Rattle.segment.specs.Value.{at-position, data-mode, steps}
+use Rattle.segment.specs.Family.{sizes}
+use Rattle.segment.specs.Fact.{same?, cell, address, dataMode, stepping, position}
+use Rattle.segment.specs.Laws.{every, room, cells-apart}
+use Rattle.segment.specs.Move.{storedAt, stored, written, byteIn, move}
+use Rattle.segment_knowledge.specs.declared.control.Control.{Control}
+use Rattle.segment_knowledge.specs.declared.control.Pointing.the-variants.{At}
+use Rattle.segment_knowledge.specs.View.{points, cview}
+use Rattle.segment_known.specs.declared.everyday.Target.{Target}
+use Rattle.segment_known.specs.declared.everyday.Target.the-variants.{Cell, Anywhere, Elsewhere}
+use Rattle.segment_known.specs.Cells.{somewhere-steps}
+use Rattle.segment_known.specs.Step.{Steps}
+use Rattle.segment_known.specs.StepWays.{step-known}
+use Rattle.standing.specs.Together.{put-told}
+
+-- Open, write display, increment, and the address is a cell before the part's last.
+pub record Counting (s : Sizes) (c : Control) (n : ℕ) : Type 0 where
+  pub opened : stands (c .position) ≡ known (at-position Open)
+  pub writing : stands (c .«data») ≡ known (data-mode WriteDisplay)
+  pub stepping : stands (c .stepping) ≡ known (steps Increment)
+  pub address : points (c .address) ≡ known (suc n)
+  pub inside : n + 1 < s .cells
+
+-- Open, write display, and the address unknown.
+pub record Roaming (c : Control) : Type 0 where
+  pub opened : stands (c .position) ≡ known (at-position Open)
+  pub writing : stands (c .«data») ≡ known (data-mode WriteDisplay)
+  pub address : points (c .address) ≡ unknown
+
+-- What a target says of the control.
+abbrev pub Hits : Sizes → Control → Target → Type 0
+Hits s c (Cell a) = Counting s c (a .0)
+Hits s c Anywhere = Roaming c
+Hits s c Elsewhere = Unit
+
+-- The same, of the address and of whether the stepping is known to be increment.
+abbrev pub HitsAt : Sizes → Standing → Bool → Target → Type 0
+HitsAt s at counting (Cell a) = (counting ≡ true) × ((at ≡ known (suc (a .0))) × (a .0 + 1 < s .cells))
+HitsAt s at counting Anywhere = at ≡ unknown
+HitsAt s at counting Elsewhere = Unit
+
+pub hits : (s : Sizes) (c : Control) (counting : Bool) (r : Target) → stands (c .position) ≡ known (at-position Open) → stands (c .«data») ≡ known (data-mode WriteDisplay)
+    → (counting ≡ true → stands (c .stepping) ≡ known (steps Increment)) → HitsAt s (points (c .address)) counting r → Hits s c r
+hits s c counting (Cell a) o w i h = record { opened = o; writing = w; stepping = i (h .0); address = h .1 .0; inside = h .1 .1 }
+hits s c counting Anywhere o w i h = record { opened = o; writing = w; address = h }
+hits s c counting Elsewhere o w i h = tt
+
+pub roamed : (p : Family) (c : Control) (b : ℕ) → Roaming c
+    → Steps (sizes p) (move (sizes p) (ByteIn b)) c (record { control = c; change = Meet (record { 0 = 0 }) 1 (sizes p .cells) b })
+roamed p c b h =
+    step-known (sizes p) position (byteIn (sizes p) b) c 2 (λ cells. h .opened)
+    (step-known (sizes p) dataMode (written (sizes p) b) c 0 (λ cells. h .writing) (somewhere-steps p c b (h .address)))
+
+-- The same with the address behind a cell.
+abbrev pub behind : Control → ℕ → Control
+behind c n = record {
+  address = At (record { 0 = n + 1 });
+  «data» = c .«data»;
+  stepping = c .stepping;
+  mode = c .mode;
+  dimming = c .dimming;
+  display = c .display;
+  led = c .led;
+  keys = c .keys;
+  switches = c .switches;
+  count = c .count;
+  position = c .position;
+}
+
+pub counted : (p : Family) (c : Control) (to : Address) (b : ℕ) → Counting (sizes p) c (to .0)
+    → Steps (sizes p) (move (sizes p) (ByteIn b)) c
+    (record { control = behind c (to .0); change = Put to b })
+counted p c to b h =
+    step-known s position (byteIn s b) c 2 (λ cells. h .opened)
+    (step-known s dataMode (written s b) c 0 (λ cells. h .writing)
+    (step-known s address (stored s b) c (suc (to .0)) (λ cells. h .address)
+    (simp (lt-ltb (to .0) (s .cells) (omega (arith, h .inside)))
+    (step-known s stepping (storedAt s b (to .0)) c 0 (λ cells. h .stepping)
+    (record {
+      knows = λ cells. every _ (λ j. put-told same? cell cells-apart (cview cells c) (to .0) b j) (rw (lt-ltb (to .0 + 1) (s .cells) (h .inside)) refl) refl refl refl refl refl refl (λ j. refl) refl refl refl;
+      inside = omega (arith, h .inside, room p .0);
+    })))))
+  where
+    s : Sizes
+    s = sizes p

@@ -1,0 +1,40 @@
+-- What an event makes of a knowledge, told in two: the facts beside the cells, and what happens to the cells.
+use Prim.Native.Nat.{ℕ}
+use mathlib.Core.Path.{_≡_}
+use Rattle.rules.specs.Rule.{Rule}
+use Rattle.knowing.specs.Standing.{Standing, unknown}
+use Rattle.knowing.specs.Ways as Ways
+use Rattle.standing.specs.declared.change.Change.the-variants.{Keep, Forget}
+use Rattle.standing.specs.Change.{seen, Inside, joined}
+use Rattle.segment.specs.declared.chip.Sizes.{Sizes}
+use Rattle.segment.specs.Fact.{Fact, same?, range}
+use Rattle.segment_knowledge.specs.declared.control.Control.{Control}
+use Rattle.segment_knowledge.specs.View.{cview}
+use Rattle.segment_known.specs.declared.steps.Step.{Step}
+
+-- What is known after a step, by what was known of the cells before it.
+abbrev pub sview : (ℕ → Standing) → Step → Fact → Standing
+sview cells r = cview (λ i. seen (r .change) i (cells i)) (r .control)
+
+-- The step r is what the rule makes of c, whatever is known of the cells, and it stays within them.
+pub record Steps (s : Sizes) (rule : Rule Fact Fact) (c : Control) (r : Step) : Type 0 where
+  pub knows : (cells : ℕ → Standing) → Ways.Knows (cview cells) (sview cells) same? (range s) rule c r
+  pub inside : Inside 36 (r .change)
+
+-- The same where the cells stay, and where they are forgotten.
+abbrev pub Keeps : Sizes → Rule Fact Fact → Control → Control → Type 0
+Keeps s rule c r = (cells : ℕ → Standing) → Ways.Knows (cview cells) (cview cells) same? (range s) rule c r
+
+abbrev pub Forgets : Sizes → Rule Fact Fact → Control → Control → Type 0
+Forgets s rule c r = (cells : ℕ → Standing) → Ways.Knows (cview cells) (cview (λ i. unknown)) same? (range s) rule c r
+
+abbrev pub keptOf : Control → Step
+keptOf c = record { control = c; change = Keep }
+
+abbrev pub forgottenOf : Control → Step
+forgottenOf c = record { control = c; change = Forget }
+
+-- The step r has in common what a and b have.
+pub record Both (a b r : Step) : Type 0 where
+  pub control : (cells : ℕ → Standing) → Ways.Joins (cview cells) (a .control) (b .control) (r .control)
+  pub change : r .change ≡ joined (a .change) (b .change)

@@ -1,0 +1,45 @@
+// What an event makes of a knowledge: the facts beside the memory, and what happens to the memory.
+use segment_knowledge::Control;
+use segment_knowledge::both;
+use standing::Change;
+use standing::both_changes;
+ghost use mathlib.Core.Path.{_≡_};
+ghost use Rattle.segment_known.specs.Step.{keptOf, forgottenOf, Both};
+
+pub struct Step {
+    pub control: Control,
+    pub change: Change,
+}
+
+// The memory stays.
+pub fn kept(control: Control) -> Step
+    ensures { λ r. ⌜ r ≡ keptOf control ⌝ }
+{
+    Step {
+        control,
+        change: Change::Keep,
+    }
+}
+
+// The memory is unknown now.
+pub fn forgotten(control: Control) -> Step
+    ensures { λ r. ⌜ r ≡ forgottenOf control ⌝ }
+{
+    Step {
+        control,
+        change: Change::Forget,
+    }
+}
+
+// What two steps have in common.
+pub fn both_steps(a: Step, b: Step) -> Step
+    ensures { λ r. ⌜ Both a b r ⌝ }
+{
+    let a_control = a.control;
+    let b_control = b.control;
+    let control = both(a_control, b_control);
+    let a_change = a.change;
+    let b_change = b.change;
+    let change = both_changes(a_change, b_change);
+    Step { control, change }
+}

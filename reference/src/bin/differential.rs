@@ -1,0 +1,161 @@
+//! Feeds the same inputs to two programs and compares what they print, byte for byte.
+//!
+//! `differential [--bench] ONE OTHER [SEED] [COUNT]`
+
+use reference::knowledge::replay_from_nothing;
+use reference::random::Random;
+use reference::trial_inputs::trial_input;
+use std::io::{self, Write};
+use std::process::{self, ChildStdin, Command, Stdio};
+use std::time::Duration;
+use std::{env, fs, thread};
+
+struct Wanted {
+    /// The programs are benchmark programs, which expect a number of rounds in front and print a checksum.
+    bench: bool,
+    one: String,
+    other: String,
+    seed: u64,
+    count: usize,
+}
+
+#[derive(PartialEq, Eq)]
+struct Outcome {
+    exit_code: Option<i32>,
+    output: Vec<u8>,
+}
+
+fn main() -> io::Result<()> {
+    let Some(wanted) = read_arguments() else {
+        eprintln!("usage: differential [--bench] ONE OTHER [SEED] [COUNT]");
+        process::exit(2);
+    };
+    let mut answers_by_number = [0; 9];
+    for number in 0..wanted.count {
+        let trial = trial_input(wanted.seed, number);
+        let input = whole_input(&wanted, number, &trial);
+        let one = run(&wanted.one, &input, number)?;
+        let other = run(&wanted.other, &input, number)?;
+        if one != other || one.exit_code != Some(0) {
+            report_difference(&wanted, number, &input, &one, &other)?;
+            process::exit(1);
+        }
+        let (&part, recording) = trial.split_first().unwrap_or((&0, &[]));
+        let (answer, _) = replay_from_nothing(part, recording);
+        answers_by_number[usize::from(answer.number)] += 1;
+    }
+    print_summary(&answers_by_number);
+    Ok(())
+}
+
+fn read_arguments() -> Option<Wanted> {
+    let mut words: Vec<String> = env::args().skip(1).collect();
+    let bench = words.first().is_some_and(|word| word == "--bench");
+    if bench {
+        words.remove(0);
+    }
+    let mut words = words.into_iter();
+    Some(Wanted {
+        bench,
+        one: words.next()?,
+        other: words.next()?,
+        seed: words.next().map_or(Some(1), |word| word.parse().ok())?,
+        count: words.next().map_or(Some(2_000), |word| word.parse().ok())?,
+    })
+}
+
+/// A benchmark program gets few rounds, once none; two of its inputs are too short to hold their number.
+fn whole_input(wanted: &Wanted, number: usize, trial: &[u8]) -> Vec<u8> {
+    if !wanted.bench {
+        return trial.to_vec();
+    }
+    match number {
+        0 => Vec::new(),
+        1 => vec![3],
+        2 => [&[0, 0], trial].concat(),
+        _ => [&[1 + (number % 3) as u8, 0], trial].concat(),
+    }
+}
+
+/// A program may know its answer before it has read all, so a pipe that it closed is no fault.
+fn run(program: &str, input: &[u8], number: usize) -> io::Result<Outcome> {
+    let mut child = Command::new(program)
+        .stdin(Stdio::piped())
+        .stdout(Stdio::piped())
+        .spawn()?;
+    let mut stdin = child.stdin.take().expect("the pipe was asked for");
+    match hand_over(&mut stdin, input, number) {
+        Err(error) if error.kind() != io::ErrorKind::BrokenPipe => return Err(error),
+        _ => drop(stdin),
+    }
+    let finished = child.wait_with_output()?;
+    Ok(Outcome {
+        exit_code: finished.status.code(),
+        output: finished.stdout,
+    })
+}
+
+/// Every fourth input comes in small pieces, the first of them slowly, as from a slow pipe.
+fn hand_over(stdin: &mut ChildStdin, input: &[u8], number: usize) -> io::Result<()> {
+    if number % 4 != 3 {
+        return stdin.write_all(input);
+    }
+    let mut random = Random::new(number as u64);
+    let mut left = input;
+    for piece in 0.. {
+        if left.is_empty() {
+            break;
+        }
+        let most = if piece < 20 { 7 } else { 9_000 };
+        let (now, later) = left.split_at(left.len().min(1 + random.below(most)));
+        stdin.write_all(now)?;
+        left = later;
+        if piece < 20 {
+            thread::sleep(Duration::from_micros(300));
+        }
+    }
+    Ok(())
+}
+
+fn report_difference(
+    wanted: &Wanted,
+    number: usize,
+    input: &[u8],
+    one: &Outcome,
+    other: &Outcome,
+) -> io::Result<()> {
+    let name = format!("differential-{}-{number}.input", wanted.seed);
+    let path = env::temp_dir().join(name);
+    fs::write(&path, input)?;
+    println!("seed {}, recording {number}: a difference", wanted.seed);
+    println!("input, {} bytes: {}", input.len(), shortened_hex(input));
+    println!("saved as {}", path.display());
+    for (program, outcome) in [(&wanted.one, one), (&wanted.other, other)] {
+        println!("{program} ended with {:?} and printed", outcome.exit_code);
+        println!("{}", String::from_utf8_lossy(&outcome.output));
+    }
+    Ok(())
+}
+
+fn shortened_hex(bytes: &[u8]) -> String {
+    let most = 200;
+    let shown: Vec<String> = bytes
+        .iter()
+        .take(most)
+        .map(|byte| format!("{byte:02X}"))
+        .collect();
+    let more = if bytes.len() > most { " ..." } else { "" };
+    shown.join(" ") + more
+}
+
+/// The numbers are those that this package's own replay gives for the same recordings.
+fn print_summary(answers_by_number: &[usize; 9]) {
+    let all: usize = answers_by_number.iter().sum();
+    let mut summary = format!("{} done", answers_by_number[0]);
+    for (number, times) in answers_by_number.iter().enumerate().skip(1) {
+        if *times > 0 {
+            summary += &format!(", {times} refused with {number}");
+        }
+    }
+    println!("{all} recordings compared, no difference: {summary}");
+}

@@ -1,0 +1,112 @@
+//! Knowledge of a PT6312 or PT6315, the parts that also read keys.
+
+mod bytes;
+mod moves;
+
+use crate::cells::Cells;
+use crate::fact::at_most;
+
+/// Where the next write goes; every address past the last cell is the same "invalid".
+#[derive(Clone, Copy, Debug, PartialEq, Eq)]
+pub enum Address {
+    Cell(u8),
+    Invalid,
+}
+
+#[derive(Clone, Copy, Debug, PartialEq, Eq)]
+pub enum DataMode {
+    WriteDisplay,
+    WriteLed,
+    ReadKeys,
+    ReadSwitches,
+}
+
+#[derive(Clone, Copy, Debug, PartialEq, Eq)]
+pub enum Stepping {
+    Increment,
+    Fixed,
+}
+
+#[derive(Clone, Copy, Debug, PartialEq, Eq)]
+pub enum Display {
+    Off,
+    On,
+}
+
+#[derive(Clone, Copy, Debug, PartialEq, Eq)]
+pub enum Position {
+    Idle,
+    FirstByte,
+    Open,
+    Ignoring,
+}
+
+/// The facts, where `None` is unknown; PT6315 has no switches, so nothing looks at them there.
+#[derive(Clone, Copy, Debug, PartialEq, Eq)]
+pub struct KeyPanel<const CELLS: usize, const KEYS: usize> {
+    pub cells: Cells<CELLS>,
+    pub address: Option<Address>,
+    pub data_mode: Option<DataMode>,
+    pub stepping: Option<Stepping>,
+    pub mode: Option<u8>,
+    pub dimming: Option<u8>,
+    pub display: Option<Display>,
+    pub led: Option<u8>,
+    pub keys: [Option<u8>; KEYS],
+    pub switches: Option<u8>,
+    pub read_count: Option<u8>,
+    pub position: Option<Position>,
+}
+
+pub type Pt6312 = KeyPanel<22, 3>;
+pub type Pt6315 = KeyPanel<36, 4>;
+
+/// What sets the two parts apart, beside the number of cells and key bytes.
+pub trait Differences {
+    const SWITCHES: bool;
+    const HIGHEST_MODE: u8;
+    const MODE_BITS: u8;
+    const ADDRESS_BITS: u8;
+    const LED_AT_POWER: u8;
+}
+
+impl Differences for Pt6312 {
+    const SWITCHES: bool = true;
+    const HIGHEST_MODE: u8 = 7;
+    const MODE_BITS: u8 = 0x07;
+    const ADDRESS_BITS: u8 = 0x1F;
+    const LED_AT_POWER: u8 = 15;
+}
+
+impl Differences for Pt6315 {
+    const SWITCHES: bool = false;
+    const HIGHEST_MODE: u8 = 8;
+    const MODE_BITS: u8 = 0x0F;
+    const ADDRESS_BITS: u8 = 0x3F;
+    const LED_AT_POWER: u8 = 0;
+}
+
+const HIGHEST_DIMMING: u8 = 7;
+const HIGHEST_NIBBLE: u8 = 15;
+const HIGHEST_READ_COUNT: u8 = 4;
+
+impl<const CELLS: usize, const KEYS: usize> KeyPanel<CELLS, KEYS>
+where
+    Self: Differences,
+{
+    fn facts_in_range(&self) -> bool {
+        let address_good = match self.address {
+            Some(Address::Cell(at)) => usize::from(at) < CELLS,
+            _ => true,
+        };
+        let data_mode_good = Self::SWITCHES || self.data_mode != Some(DataMode::ReadSwitches);
+        let switches_good = !Self::SWITCHES || at_most(self.switches, HIGHEST_NIBBLE);
+        address_good
+            && data_mode_good
+            && switches_good
+            && at_most(self.mode, Self::HIGHEST_MODE)
+            && at_most(self.dimming, HIGHEST_DIMMING)
+            && at_most(self.led, HIGHEST_NIBBLE)
+            && at_most(self.read_count, HIGHEST_READ_COUNT)
+    }
+}

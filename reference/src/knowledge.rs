@@ -1,0 +1,47 @@
+//! Knowledge of whichever part the part byte names.
+
+use crate::answer::Answer;
+use crate::character_panel::Pt6302;
+use crate::key_panel::{Pt6312, Pt6315};
+use crate::replay::{replay, Panel};
+
+/// Knowledge beside its part.
+#[derive(Clone, Copy, Debug, PartialEq, Eq)]
+pub enum Knowledge {
+    Pt6302(Pt6302),
+    Pt6312(Pt6312),
+    Pt6315(Pt6315),
+}
+
+pub const PT6302: u8 = 0x02;
+pub const PT6312: u8 = 0x12;
+pub const PT6315: u8 = 0x15;
+
+impl Knowledge {
+    /// Nothing is known of the part, or the byte names none.
+    pub fn unknown(part: u8) -> Option<Self> {
+        match part {
+            PT6302 => Some(Knowledge::Pt6302(Pt6302::UNKNOWN)),
+            PT6312 => Some(Knowledge::Pt6312(Pt6312::UNKNOWN)),
+            PT6315 => Some(Knowledge::Pt6315(Pt6315::UNKNOWN)),
+            _ => None,
+        }
+    }
+
+    /// The part is looked at here and nowhere further in.
+    pub fn replay(&mut self, recording: &[u8], start: usize) -> Answer {
+        match self {
+            Knowledge::Pt6302(panel) => replay(panel, recording, start),
+            Knowledge::Pt6312(panel) => replay(panel, recording, start),
+            Knowledge::Pt6315(panel) => replay(panel, recording, start),
+        }
+    }
+}
+
+/// Replays a whole recording from knowing nothing; there is no knowledge where the byte names no part.
+pub fn replay_from_nothing(part: u8, recording: &[u8]) -> (Answer, Option<Knowledge>) {
+    match Knowledge::unknown(part) {
+        Some(mut knowledge) => (knowledge.replay(recording, 0), Some(knowledge)),
+        None => (Answer::refused(Answer::NO_SUCH_PART, 0), None),
+    }
+}

@@ -1,0 +1,21 @@
+//! A second reading of paper 01 by hand: what a recording of a display panel's wires tells about the panel's chip.
+//!
+//! Knowledge holds each fact of a chip as known or unknown.
+//! A replay moves it in place, so that after each event a fact is known exactly when every chip that fits the
+//! earlier knowledge comes out of the event with the same value.
+
+pub mod answer;
+pub mod cells;
+pub mod character_panel;
+pub mod checksum;
+pub mod fact;
+pub mod key_panel;
+pub mod knowledge;
+pub mod painting;
+pub mod random;
+pub mod recording;
+pub mod replay;
+pub mod show;
+pub mod trial_inputs;
+pub mod trial_recordings;
+pub mod work_loads;
