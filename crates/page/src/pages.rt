@@ -7,6 +7,7 @@ use panel::Panel;
 use replay::Answer;
 use terms::Part;
 use terms::PartRead;
+use terms::Place;
 use terms::part_of;
 use writing::put;
 use writing::words;
@@ -38,39 +39,39 @@ pub fn write_page(part: u8, answer: Answer, panel: Panel, out: &mut [u8]) -> usi
 }
 
 // The number of an answer, and its place.
-struct Told(usize, usize);
+struct Told(usize, Place);
 
 fn told_of(answer: Answer) -> Told
-    ensures { λ r. ⌜ (r .0 ≡ number answer) × (r .1 ≡ place answer) ⌝ }
+    ensures { λ r. ⌜ (r .0 ≡ number answer) × (r .1 .0 ≡ place answer) ⌝ }
 {
     match answer {
-        Answer::Done(at) => Told(0, at.0),
-        Answer::NoPart(at) => Told(1, at.0),
-        Answer::OutOfRange(at) => Told(2, at.0),
-        Answer::BeyondEnd(at) => Told(3, at.0),
-        Answer::TooLong(at) => Told(4, at.0),
-        Answer::Unlisted(at) => Told(5, at.0),
-        Answer::Foreign(at) => Told(6, at.0),
-        Answer::CutShort(at) => Told(7, at.0),
-        Answer::Forbidden(at) => Told(8, at.0),
+        Answer::Done(at) => Told(0, at),
+        Answer::NoPart(at) => Told(1, at),
+        Answer::OutOfRange(at) => Told(2, at),
+        Answer::BeyondEnd(at) => Told(3, at),
+        Answer::TooLong(at) => Told(4, at),
+        Answer::Unlisted(at) => Told(5, at),
+        Answer::Foreign(at) => Told(6, at),
+        Answer::CutShort(at) => Told(7, at),
+        Answer::Forbidden(at) => Told(8, at),
     }
 }
 
-fn done(out: &mut [u8], place: usize) -> usize
-    ensures { λ r. ⌜ Writes (now (out .entry)) 0 (doneAt place) r (now (out .exit)) ⌝ }
+fn done(out: &mut [u8], place: Place) -> usize
+    ensures { λ r. ⌜ Writes (now (out .entry)) 0 (doneAt (place .0)) r (now (out .exit)) ⌝ }
 {
     let begun = words(out, 0, b"done at ");
-    let told = decimal(out, begun, place);
+    let told = decimal(out, begun, place.0);
     put(out, told, b'\n')
 }
 
-fn refused(out: &mut [u8], number: usize, place: usize) -> usize
-    ensures { λ r. ⌜ Writes (now (out .entry)) 0 (refusedAt number place) r (now (out .exit)) ⌝ }
+fn refused(out: &mut [u8], number: usize, place: Place) -> usize
+    ensures { λ r. ⌜ Writes (now (out .entry)) 0 (refusedAt number (place .0)) r (now (out .exit)) ⌝ }
 {
     let begun = words(out, 0, b"refused ");
     let numbered = decimal(out, begun, number);
     let next = words(out, numbered, b" at ");
-    let told = decimal(out, next, place);
+    let told = decimal(out, next, place.0);
     put(out, told, b'\n')
 }
 

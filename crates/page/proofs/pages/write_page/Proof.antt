@@ -32,7 +32,7 @@ returns-2 c =
     let t = c .before .before .before .before .before .before .before .before .before .before .told-of in
     let m = c .before .before .memory .ensures in
     rw (page-done (partOf (a .part)) (a .answer) (a .panel) (omega (arith, t .ensures .0, c .before .before .before .before .before .before .before .before .if2 .taken)) (t .ensures .1))
-    (prints (omega (arith, c .before .before .before .before .before .before .before .before .before .before .before .if1 .left)) (omega (arith, length-append (doneAt (t .result .1)) (memory (partOf (a .part)) (a .panel)), done-length (t .result .1), m .1)) (writes-then (c .before .before .before .before .before .before .done .ensures) (m .0)))
+    (prints (omega (arith, c .before .before .before .before .before .before .before .before .before .before .before .if1 .left)) (omega (arith, length-append (doneAt (t .result .1 .0)) (memory (partOf (a .part)) (a .panel)), done-length (t .result .1 .0), m .1)) (writes-then (c .before .before .before .before .before .before .done .ensures) (m .0)))
 
 refused-requires : tie.Need-refused-requires
 refused-requires c κs = search needs
@@ -45,7 +45,7 @@ returns-3 c =
     let a = c .before .before .before .before .before .before .before .before .before .args in
     let t = c .before .before .before .before .before .before .told-of in
     rw (page-refused (partOf (a .part)) (a .answer) (a .panel) (λ z. omega (arith, c .before .before .before .before .if2 .left)) (t .ensures .0) (t .ensures .1))
-    (prints (omega (arith, c .before .before .before .before .before .before .before .if1 .left)) (omega (arith, refused-length (t .result .0) (t .result .1))) (c .before .before .refused .ensures))
+    (prints (omega (arith, c .before .before .before .before .before .before .before .if1 .left)) (omega (arith, refused-length (t .result .0) (t .result .1 .0))) (c .before .before .refused .ensures))
 
 pub write-page-spec : {M : Type 1} → statement M
 write-page-spec =

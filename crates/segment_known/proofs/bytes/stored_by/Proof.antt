@@ -1,11 +1,15 @@
 -- `segment_known::bytes::stored_by` meets its contract: a known address is a cell of the part, or none; at an unknown one every cell meets the byte.
 -- Assumes nothing.
-use mathlib.Core.Path.{refl, sym, ap}
+use mathlib.Core.Path.{refl, sym, ap, subst⁻¹}
 use borrow.Author.Tests.{lt-ltb, le-ltb}
+use Rattle.rules.specs.Rule.{look}
+use Rattle.standing.specs.declared.change.Change.the-variants.{Meet}
+use Rattle.segment.specs.declared.chip.Sizes.{Sizes}
 use Rattle.segment.specs.Fact.{address}
 use Rattle.segment.specs.Family.{sizes}
 use Rattle.segment.specs.Move.{stored}
 use Rattle.segment_knowledge.specs.View.{points}
+use Rattle.segment_known.specs.Step.{Steps}
 use Rattle.segment_known.specs.Cells.{somewhere-steps}
 use Rattle.segment_known.specs.StepLaws.{kept-steps}
 use Rattle.segment_known.specs.StepWays.{step-known}
@@ -54,7 +58,8 @@ returns-3 c = let a = c .before .before .before .args in
 
 returns-4 : tie.Need-returns-4
 returns-4 c = let a = c .before .before .before .args in
-    rw (c .sizes2 .ensures) (somewhere-steps (a .family) (a .c) (a .byte) (ap points (c .before .enum-told2 .given .1)))
+    subst⁻¹ (λ (x : Sizes). Steps (sizes (a .family)) (look address (stored (sizes (a .family)) (a .byte))) (a .c) (record { control = a .c; change = Meet (record { 0 = 0 }) 1 (x .cells) (a .byte) }))
+    (c .sizes2 .ensures) (somewhere-steps (a .family) (a .c) (a .byte) (ap points (c .before .enum-told2 .given .1)))
 
 pub stored-by-spec : {M : Type 1} → statement M
 stored-by-spec =
