@@ -10,3 +10,4 @@ pub mod Changed
 pub mod Range
 pub mod Event
 pub mod Turn
+pub mod Steps

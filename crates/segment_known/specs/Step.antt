@@ -3,6 +3,7 @@ use Prim.Native.Nat.{ℕ}
 use mathlib.Core.Path.{_≡_}
 use Rattle.rules.specs.Rule.{Rule}
 use Rattle.knowing.specs.Standing.{Standing, unknown}
+use Rattle.knowing.specs.Steps as Of
 use Rattle.knowing.specs.Ways as Ways
 use Rattle.standing.specs.declared.change.Change.the-variants.{Keep, Forget}
 use Rattle.standing.specs.Change.{seen, Inside, joined}
@@ -16,10 +17,13 @@ use Rattle.segment_known.specs.declared.steps.Step.{Step}
 abbrev pub sview : (ℕ → Standing) → Step → Fact → Standing
 sview cells r = cview (λ i. seen (r .change) i (cells i)) (r .control)
 
+-- The change stays within the cells.
+abbrev pub Within : Step → Type 0
+Within r = Inside 36 (r .change)
+
 -- The step r is what the rule makes of c, whatever is known of the cells, and it stays within them.
-pub record Steps (s : Sizes) (rule : Rule Fact Fact) (c : Control) (r : Step) : Type 0 where
-  pub knows : (cells : ℕ → Standing) → Ways.Knows (cview cells) (sview cells) same? (range s) rule c r
-  pub inside : Inside 36 (r .change)
+abbrev pub Steps : Sizes → Rule Fact Fact → Control → Step → Type 0
+Steps s = Of.Steps cview sview Within same? (range s)
 
 -- The same where the cells stay, and where they are forgotten.
 abbrev pub Keeps : Sizes → Rule Fact Fact → Control → Control → Type 0

@@ -4,6 +4,7 @@ use mathlib.Core.Path.{_≡_, refl, ap, _∙_, subst⁻¹}
 use Rattle.rules.specs.Rule.{Rule}
 use Rattle.knowing.specs.Standing.{Standing}
 use Rattle.knowing.specs.Know.{join}
+use Rattle.knowing.specs.Steps as Of
 use Rattle.knowing.specs.Ways.{Joins}
 use Rattle.standing.specs.declared.change.Change.{Change}
 use Rattle.standing.specs.declared.change.Change.the-variants.{Keep, Put}
@@ -11,12 +12,12 @@ use Rattle.standing.specs.Change.{seen, Inside, TogetherWith, Together, Plain}
 use Rattle.standing.specs.Together.{joined-seen, joined-inside, plain-together, together-plain, plain-joined}
 use Rattle.terms.specs.declared.Address.{Address}
 use Rattle.segment.specs.declared.chip.Sizes.{Sizes}
-use Rattle.segment.specs.Fact.{Fact, cell, address, dataMode, stepping, mode, dimming, display, led, key, switches, readCount, position}
+use Rattle.segment.specs.Fact.{Fact, same?, range, cell, address, dataMode, stepping, mode, dimming, display, led, key, switches, readCount, position}
 use Rattle.segment.specs.Laws.{every}
 use Rattle.segment_knowledge.specs.declared.control.Control.{Control}
 use Rattle.segment_knowledge.specs.View.{cview}
 use Rattle.segment_known.specs.declared.steps.Step.{Step}
-use Rattle.segment_known.specs.Step.{sview, Steps, Keeps, Forgets, keptOf, forgottenOf, Both}
+use Rattle.segment_known.specs.Step.{sview, Within, Steps, Keeps, Forgets, keptOf, forgottenOf, Both}
 
 pub kept-steps : {s : Sizes} {rule : Rule Fact Fact} {c d : Control} {r : Step} → r ≡ keptOf d → Keeps s rule c d → Steps s rule c r
 kept-steps {s} {rule} {c} {d} {r} e h = subst⁻¹ (λ (x : Step). Steps s rule c x) e (record { knows = h; inside = tt })
@@ -24,9 +25,8 @@ kept-steps {s} {rule} {c} {d} {r} e h = subst⁻¹ (λ (x : Step). Steps s rule 
 pub forgotten-steps : {s : Sizes} {rule : Rule Fact Fact} {c d : Control} {r : Step} → r ≡ forgottenOf d → Forgets s rule c d → Steps s rule c r
 forgotten-steps {s} {rule} {c} {d} {r} e h = subst⁻¹ (λ (x : Step). Steps s rule c x) e (record { knows = h; inside = tt })
 
--- A rule that is another, in name, makes the same step.
 pub as-steps : {s : Sizes} {x y : Rule Fact Fact} {c : Control} {r : Step} → x ≡ y → Steps s y c r → Steps s x c r
-as-steps {s} {x} {y} {c} {r} e h = subst⁻¹ (λ (z : Rule Fact Fact). Steps s z c r) e h
+as-steps {s} = Of.as-steps cview sview Within same? (range s)
 
 -- What two steps do to the cells can be told together.
 pub record Told (a b : Step) : Type 0 where
