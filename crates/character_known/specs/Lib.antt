@@ -6,3 +6,4 @@ pub mod Cells
 pub mod Drawn
 pub mod Columns
 pub mod Position
+pub mod Everyday

@@ -2,6 +2,7 @@
 use mathlib.Core.Path.{_≡_}
 use Rattle.rules.specs.Rule.{Rule}
 use Rattle.knowing.specs.Standing.{Standing}
+use Rattle.knowing.specs.Steps as Of
 use Rattle.knowing.specs.Ways as Ways
 use Rattle.standing.specs.declared.change.Change.the-variants.{Keep, Forget}
 use Rattle.standing.specs.Change.{seen, Inside, joined, Plain}
@@ -27,9 +28,8 @@ abbrev pub AllInside : Step → Type 0
 AllInside r = Inside 16 (r .dcram) × (Inside 40 (r .cgram) × Inside 16 (r .adram))
 
 -- The step r is what the rule makes of c, whatever is known of the memory, and it stays within it.
-pub record Steps (rule : Rule Fact Fact) (c : Control) (r : Step) : Type 0 where
-  pub knows : (m : Memory) → Ways.Knows (cview m) (sview m) same? range rule c r
-  pub inside : AllInside r
+abbrev pub Steps : Rule Fact Fact → Control → Step → Type 0
+Steps = Of.Steps cview sview AllInside same? range
 
 -- The same where the memory stays, and where it is forgotten.
 abbrev pub Keeps : Rule Fact Fact → Control → Control → Type 0

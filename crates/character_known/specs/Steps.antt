@@ -6,6 +6,7 @@ use mathlib.Core.List.{List}
 use Rattle.rules.specs.Rule.{Rule, look}
 use Rattle.knowing.specs.Standing.{known, unknown}
 use Rattle.knowing.specs.Know.{join}
+use Rattle.knowing.specs.Steps as Of
 use Rattle.knowing.specs.Ways as Ways
 use Rattle.standing.specs.declared.change.Change.{Change}
 use Rattle.standing.specs.Change.{seen, Changes, Inside, joined, Together, Plain}
@@ -32,7 +33,7 @@ forgotten-plain e = subst⁻¹ (λ (x : Step). AllPlain x) e (tt, (tt, tt))
 
 -- A rule that is another, in name.
 pub same-rule : {a b : Rule Fact Fact} {c : Control} {r : Step} → a ≡ b → Steps b c r → Steps a c r
-same-rule {a} {b} {c} {r} e h = subst⁻¹ (λ (x : Rule Fact Fact). Steps x c r) e h
+same-rule = Of.as-steps cview sview AllInside same? range
 
 -- Two steps can be told together, RAM by RAM.
 abbrev pub AllTogether : Step → Step → Type 0
@@ -66,34 +67,28 @@ both-inside {a} {b} {r} h p q = (
   ),
 )
 
--- The ways of a look, as steps.
+-- The ways of a look, as steps of this part: `knowing/Steps` over what is known of the memory.
 module _ (g : Fact) (κ : ℕ → Rule Fact Fact) (c : Control) where
+  abbrev pub Goes : ℕ → Step → Type 0
+  Goes = Of.Goes cview sview AllInside same? range g κ c
+
+  abbrev pub Gathered : ℕ → Step → Type 0
+  Gathered = Of.Gathered cview sview AllInside same? range g κ c
+
   pub known-step : (r : Step) (v : ℕ) → ((m : Memory) → cview m c g ≡ known v) → Steps (κ v) c r → Steps (look g κ) c r
-  known-step r v e h = record { knows = λ m. Ways.known-way (cview m) (sview m) same? range g κ c r v (e m) (h .knows m); inside = h .inside }
-
-  -- The way of the value v, and what the first n ways have in common.
-  pub record Goes (v : ℕ) (r : Step) : Type 0 where
-    pub way : (m : Memory) → Ways.Way (cview m) (sview m) same? range (κ v) c g v r
-    pub inside : AllInside r
-
-  pub record Gathers (n : ℕ) (r : Step) : Type 0 where
-    pub ways : (m : Memory) → Ways.Gathers (cview m) (sview m) same? range g κ c n r
-    pub inside : AllInside r
+  known-step r v = Of.step-known cview sview AllInside same? range g κ c v
 
   pub goes : (v : ℕ) (l : Control) (r : Step) → ((m : Memory) → Ways.Learns (cview m) same? g v c l) → Steps (κ v) l r → Goes v r
-  goes v l r e h = record { way = λ m. Ways.way (cview m) (sview m) same? range (κ v) c l r g v (e m) (h .knows m); inside = h .inside }
+  goes v l r = Of.goes cview sview AllInside same? range g κ c v l
 
-  pub first-step : (r : Step) → Goes 0 r → Gathers 1 r
-  first-step r h = record { ways = λ m. Ways.first-way (cview m) (sview m) same? range g κ c r (h .way m); inside = h .inside }
+  pub first-step : (r : Step) → Goes 0 r → Gathered 1 r
+  first-step r = Of.step-first cview sview AllInside same? range g κ c
 
-  pub next-step : (n : ℕ) (a b r : Step) → Both a b r → AllTogether a b → Gathers (suc n) a → Goes (suc n) b → Gathers (suc (suc n)) r
-  next-step n a b r e t h p = record {
-    ways = λ m. Ways.next-way (cview m) (sview m) same? range g κ c n a b r (both-joins t e m) (h .ways m) (p .way m);
-    inside = both-inside e (h .inside) (p .inside);
-  }
+  pub next-step : (n : ℕ) (a b r : Step) → Both a b r → AllTogether a b → Gathered (suc n) a → Goes (suc n) b → Gathered (suc (suc n)) r
+  next-step n a b r e t = Of.step-next cview sview AllInside same? range g κ c n (both-joins t e) (both-inside e)
 
-  pub all-steps : (n : ℕ) (r : Step) → range g ≡ n → ((m : Memory) → cview m c g ≡ unknown) → Gathers n r → Steps (look g κ) c r
-  all-steps n r e u h = record { knows = λ m. Ways.all-ways (cview m) (sview m) same? range g κ c n r e (u m) (h .ways m); inside = h .inside }
+  pub all-steps : (n : ℕ) (r : Step) → range g ≡ n → ((m : Memory) → cview m c g ≡ unknown) → Gathered n r → Steps (look g κ) c r
+  all-steps n r = Of.step-all cview sview AllInside same? range g κ c n
 
 -- The step is done to the rows.
 pub applied : (rule : Rule Fact Fact) (k : Knowledge) (s : Step) (d g a : List ℕ) → Steps rule (k .control) s → Changes (s .dcram) (k .dcram) d → Changes (s .cgram) (k .cgram) g → Changes (s .adram) (k .adram) a

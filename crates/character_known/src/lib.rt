@@ -2,9 +2,17 @@
 mod bytes;
 mod columns;
 mod commanded;
+mod everyday;
 mod moves;
 mod steps;
 
+pub use everyday::Target;
+pub use everyday::column_at;
+pub use everyday::drawn_on;
+pub use everyday::falls;
+pub use everyday::goes_to;
+pub use everyday::marked_on;
+pub use everyday::rises;
+pub use everyday::shown_on;
 pub use moves::moved;
-pub use moves::step;
-pub use steps::Step;
+pub use moves::taken;

@@ -15,37 +15,15 @@ use standing::Standing;
 use standing::apply;
 use terms::Address;
 use terms::Event;
+ghost use mathlib.Core.Path.{_≡_};
+ghost use lib.ListN.{length};
 ghost use Rattle.rules.specs.Rule.{gives, free};
 ghost use Rattle.character.specs.Move.{powered, move};
 ghost use Rattle.character_knowledge.specs.View.{Knows};
 ghost use Rattle.character_known.specs.Step.{Steps};
 
-// The knowledge after an event.
-pub fn moved(k: Knowledge, event: Event) -> Knowledge
-    ensures { λ r. ⌜ Knows (move event) k r ⌝ }
-{
-    let was = k.control;
-    let next = step(was, event);
-    let mut dcram = k.dcram;
-    let to_dcram = next.dcram;
-    apply(&mut dcram, to_dcram);
-    let mut cgram = k.cgram;
-    let to_cgram = next.cgram;
-    apply(&mut cgram, to_cgram);
-    let mut adram = k.adram;
-    let to_adram = next.adram;
-    apply(&mut adram, to_adram);
-    let control = next.control;
-    Knowledge {
-        dcram,
-        cgram,
-        adram,
-        control,
-    }
-}
-
 // What an event does, by what is known beside the memory. Keys, switches and bytes out are no events of this part, and change nothing.
-pub fn step(c: Control, event: Event) -> Step
+fn step(c: Control, event: Event) -> Step
     ensures { λ r. ⌜ Steps (move event) c r ⌝ }
 {
     match event {
@@ -83,4 +61,42 @@ fn at_power(c: Control) -> Step
         lights: Standing::Known(OFF),
         position: Standing::Known(IDLE),
     })
+}
+
+// An event taken through a knowledge, whose rows are changed where they stand.
+pub fn taken(
+    c: Control,
+    dcram: &mut [u16],
+    cgram: &mut [u16],
+    adram: &mut [u16],
+    event: Event,
+) -> Control
+    requires { ⌜ (length (now dcram) ≡ 16) × ((length (now cgram) ≡ 40) × (length (now adram) ≡ 16)) ⌝ }
+    ensures { λ r. ⌜ Knows (move event) (record { dcram = now (dcram .entry); cgram = now (cgram .entry); adram = now (adram .entry); control = c }) (record { dcram = now (dcram .exit); cgram = now (cgram .exit); adram = now (adram .exit); control = r }) ⌝ }
+{
+    let next = step(c, event);
+    let to_dcram = next.dcram;
+    apply(dcram, to_dcram);
+    let to_cgram = next.cgram;
+    apply(cgram, to_cgram);
+    let to_adram = next.adram;
+    apply(adram, to_adram);
+    next.control
+}
+
+// The knowledge after an event.
+pub fn moved(k: Knowledge, event: Event) -> Knowledge
+    ensures { λ r. ⌜ Knows (move event) k r ⌝ }
+{
+    let mut dcram = k.dcram;
+    let mut cgram = k.cgram;
+    let mut adram = k.adram;
+    let was = k.control;
+    let control = taken(was, &mut dcram, &mut cgram, &mut adram, event);
+    Knowledge {
+        dcram,
+        cgram,
+        adram,
+        control,
+    }
 }

@@ -4,7 +4,7 @@ use Prim.Native.Nat.{ℕ, suc}
 use mathlib.Core.Path.{_≡_, subst⁻¹}
 use Rattle.rules.specs.Rule.{Rule, look}
 use Rattle.knowing.specs.Standing.{Standing, known, unknown}
-use Rattle.knowing.specs.Ways.{Knows, Learns, Joins, Gathers, way, known-way, first-way, next-way, all-ways}
+use Rattle.knowing.specs.Ways.{Knows, Learns, Joins, Way, Gathers, way, known-way, first-way, next-way, all-ways}
 
 -- `view` reads what is known before, and `out` what is known after a step, by what was known of the memory before it.
 module _ {F K A M : Type 0} (view : M → K → F → Standing) (out : M → A → F → Standing) (Inside : A → Type 0) (same? : Discrete F) (range : F → ℕ) where
@@ -22,7 +22,11 @@ module _ {F K A M : Type 0} (view : M → K → F → Standing) (out : M → A �
   Learnt g v c l = (m : M) → Learns (view m) same? g v c l
 
   module _ (g : F) (κ : ℕ → Rule F F) (c : K) where
-    -- What the first n ways have in common.
+    -- The way of the value v, and what the first n ways have in common.
+    pub record Goes (v : ℕ) (r : A) : Type 0 where
+      pub ways : (m : M) → Way (view m) (out m) same? range (κ v) c g v r
+      pub inside : Inside r
+
     pub record Gathered (n : ℕ) (r : A) : Type 0 where
       pub gathers : (m : M) → Gathers (view m) (out m) same? range g κ c n r
       pub inside : Inside r
@@ -30,16 +34,15 @@ module _ {F K A M : Type 0} (view : M → K → F → Standing) (out : M → A �
     pub step-known : {r : A} (v : ℕ) → ((m : M) → view m c g ≡ known v) → Steps (κ v) c r → Steps (look g κ) c r
     step-known {r} v e h = record { knows = λ m. known-way (view m) (out m) same? range g κ c r v (e m) (h .knows m); inside = h .inside }
 
-    pub step-first : {r : A} (l : K) → Learnt g 0 c l → Steps (κ 0) l r → Gathered 1 r
-    step-first {r} l e h = record {
-      gathers = λ m. first-way (view m) (out m) same? range g κ c r (way (view m) (out m) same? range (κ 0) c l r g 0 (e m) (h .knows m));
-      inside = h .inside;
-    }
+    pub goes : {r : A} (v : ℕ) (l : K) → Learnt g v c l → Steps (κ v) l r → Goes v r
+    goes {r} v l e h = record { ways = λ m. way (view m) (out m) same? range (κ v) c l r g v (e m) (h .knows m); inside = h .inside }
 
-    pub step-next : {a b r : A} (n : ℕ) (l : K) → ((m : M) → Joins (out m) a b r) → (Inside a → Inside b → Inside r) → Gathered (suc n) a → Learnt g (suc n) c l → Steps (κ (suc n)) l b
-        → Gathered (suc (suc n)) r
-    step-next {a} {b} {r} n l j i h e p = record {
-      gathers = λ m. next-way (view m) (out m) same? range g κ c n a b r (j m) (h .gathers m) (way (view m) (out m) same? range (κ (suc n)) c l b g (suc n) (e m) (p .knows m));
+    pub step-first : {r : A} → Goes 0 r → Gathered 1 r
+    step-first {r} h = record { gathers = λ m. first-way (view m) (out m) same? range g κ c r (h .ways m); inside = h .inside }
+
+    pub step-next : {a b r : A} (n : ℕ) → ((m : M) → Joins (out m) a b r) → (Inside a → Inside b → Inside r) → Gathered (suc n) a → Goes (suc n) b → Gathered (suc (suc n)) r
+    step-next {a} {b} {r} n j i h p = record {
+      gathers = λ m. next-way (view m) (out m) same? range g κ c n a b r (j m) (h .gathers m) (p .ways m);
       inside = i (h .inside) (p .inside);
     }
 

@@ -12,7 +12,7 @@ use Rattle.terms.specs.declared.Address.{Address}
 use Rattle.terms.specs.declared.Event.the-variants.{ByteIn}
 use Rattle.segment.specs.declared.chip.Sizes.{Sizes}
 use Rattle.segment.specs.declared.chip.Family.{Family}
-use Rattle.segment.specs.declared.chip.Position.the-variants.{Open}
+use Rattle.segment.specs.declared.chip.Position.the-variants.{First, Open}
 use Rattle.segment.specs.declared.chip.Data.the-variants.{WriteDisplay}
 use Rattle.segment.specs.declared.chip.Stepping.the-variants.{Increment}
 use Rattle.segment.specs.Value.{at-position, data-mode, steps}
@@ -24,10 +24,12 @@ use Rattle.segment_knowledge.specs.declared.control.Control.{Control}
 use Rattle.segment_knowledge.specs.declared.control.Pointing.the-variants.{At}
 use Rattle.segment_knowledge.specs.View.{points, cview}
 use Rattle.segment_known.specs.declared.everyday.Target.{Target}
-use Rattle.segment_known.specs.declared.everyday.Target.the-variants.{Cell, Anywhere, Elsewhere}
+use Rattle.segment_known.specs.declared.everyday.Target.the-variants.{Cell, Anywhere, Nowhere, Command, Elsewhere}
 use Rattle.segment_known.specs.Cells.{somewhere-steps}
-use Rattle.segment_known.specs.Step.{Steps}
+use Rattle.segment_known.specs.Step.{Steps, keptOf}
+use Rattle.segment_known.specs.StepLaws.{as-steps, kept-steps}
 use Rattle.segment_known.specs.StepWays.{step-known}
+use Rattle.segment_known.specs.Ways.{other-in}
 use Rattle.standing.specs.Together.{put-told}
 
 -- Open, write display, increment, and the address is a cell before the part's last.
@@ -44,23 +46,41 @@ pub record Roaming (c : Control) : Type 0 where
   pub writing : stands (c .«data») ≡ known (data-mode WriteDisplay)
   pub address : points (c .address) ≡ unknown
 
+-- Neither first byte nor open.
+pub record Shut (c : Control) : Type 0 where
+  pub place : ℕ
+  pub there : stands (c .position) ≡ known place
+  pub not-first : ¬ (place ≡ at-position First)
+  pub not-open : ¬ (place ≡ at-position Open)
+
 -- What a target says of the control.
 abbrev pub Hits : Sizes → Control → Target → Type 0
 Hits s c (Cell a) = Counting s c (a .0)
 Hits s c Anywhere = Roaming c
+Hits s c Nowhere = Shut c
+Hits s c Command = stands (c .position) ≡ known (at-position First)
 Hits s c Elsewhere = Unit
 
 -- The same, of the address and of whether the stepping is known to be increment.
 abbrev pub HitsAt : Sizes → Standing → Bool → Target → Type 0
 HitsAt s at counting (Cell a) = (counting ≡ true) × ((at ≡ known (suc (a .0))) × (a .0 + 1 < s .cells))
 HitsAt s at counting Anywhere = at ≡ unknown
+HitsAt s at counting Nowhere = ⊥
+HitsAt s at counting Command = ⊥
 HitsAt s at counting Elsewhere = Unit
 
 pub hits : (s : Sizes) (c : Control) (counting : Bool) (r : Target) → stands (c .position) ≡ known (at-position Open) → stands (c .«data») ≡ known (data-mode WriteDisplay)
     → (counting ≡ true → stands (c .stepping) ≡ known (steps Increment)) → HitsAt s (points (c .address)) counting r → Hits s c r
 hits s c counting (Cell a) o w i h = record { opened = o; writing = w; stepping = i (h .0); address = h .1 .0; inside = h .1 .1 }
 hits s c counting Anywhere o w i h = record { opened = o; writing = w; address = h }
+hits s c counting Nowhere o w i h = absurd h
+hits s c counting Command o w i h = absurd h
 hits s c counting Elsewhere o w i h = tt
+
+pub ignored : (p : Family) (c : Control) (b : ℕ) → Shut c → Steps (sizes p) (move (sizes p) (ByteIn b)) c (keptOf c)
+ignored p c b h =
+    step-known (sizes p) position (byteIn (sizes p) b) c (h .place) (λ cells. h .there)
+    (as-steps (other-in _ _ (h .place) (h .not-first) (h .not-open)) (kept-steps refl (λ cells f. refl)))
 
 pub roamed : (p : Family) (c : Control) (b : ℕ) → Roaming c
     → Steps (sizes p) (move (sizes p) (ByteIn b)) c (record { control = c; change = Meet (record { 0 = 0 }) 1 (sizes p .cells) b })

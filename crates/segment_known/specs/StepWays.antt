@@ -23,10 +23,11 @@ module _ (s : Sizes) (g : Fact) (κ : ℕ → Rule Fact Fact) (c : Control) wher
   step-known = Of.step-known cview sview Within same? (range s) g κ c
 
   pub step-first : {r : Step} (l : Control) → Learnt s g 0 c l → Steps s (κ 0) l r → Gathered 1 r
-  step-first = Of.step-first cview sview Within same? (range s) g κ c
+  step-first l e h = Of.step-first cview sview Within same? (range s) g κ c (Of.goes cview sview Within same? (range s) g κ c 0 l e h)
 
   pub step-next : {a b r : Step} (n : ℕ) (l : Control) → Told a b → Both a b r → Gathered (suc n) a → Learnt s g (suc n) c l → Steps s (κ (suc n)) l b → Gathered (suc (suc n)) r
-  step-next n l t j = Of.step-next cview sview Within same? (range s) g κ c n l (both-joins t j) (both-inside j)
+  step-next n l t j a e h =
+      Of.step-next cview sview Within same? (range s) g κ c n (both-joins t j) (both-inside j) a (Of.goes cview sview Within same? (range s) g κ c (suc n) l e h)
 
   pub step-all : {r : Step} (n : ℕ) → range s g ≡ n → ((cells : ℕ → Standing) → cview cells c g ≡ unknown) → Gathered n r → Steps s (look g κ) c r
   step-all = Of.step-all cview sview Within same? (range s) g κ c

@@ -1,5 +1,6 @@
-// The events of every day, each in a function small enough to stand in the loop over the records: the strobe, and a data byte that goes to a known cell
-// with another behind it.
+// The events of every day, each in a function small enough to stand in the loop over the records: the strobe, and a byte
+// whose way is known.
+use crate::commanded::first_in;
 use segment::Family;
 use segment_knowledge::Control;
 use segment_knowledge::FIRST;
@@ -10,6 +11,7 @@ use segment_knowledge::Pointing;
 use segment_knowledge::WRITE_DISPLAY;
 use segment_knowledge::at;
 use standing::Standing;
+use standing::apply;
 use standing::meet_all;
 use terms::Address;
 ghost use mathlib.Core.Path.{_≡_};
@@ -24,7 +26,9 @@ ghost use Rattle.terms.specs.declared.Event.the-variants.{Falls, Rises, ByteIn}
 ghost use Rattle.segment.specs.declared.chip.Sizes.{Sizes};
 ghost use Rattle.segment.specs.Family.{sizes};
 ghost use Rattle.segment.specs.Move.{move};
-ghost use Rattle.segment_knowledge.specs.View.{points};
+ghost use Rattle.segment.specs.declared.chip.Position.the-variants.{First, Open};
+ghost use Rattle.segment.specs.Value.{at-position};
+ghost use Rattle.segment_knowledge.specs.View.{points, Knows};
 ghost use Rattle.segment_known.specs.Step.{Keeps, Steps};
 ghost use Rattle.segment_known.specs.Everyday.{Counting, Hits, HitsAt};
 
@@ -46,6 +50,10 @@ pub enum Target {
     Cell(Address),
     // To any cell, or none.
     Anywhere,
+    // It is ignored.
+    Nowhere,
+    // It is a command.
+    Command,
     Elsewhere,
 }
 
@@ -53,13 +61,25 @@ pub fn goes_to(family: Family, c: Control) -> Target
     ensures { λ r. ⌜ Hits (sizes family) c r ⌝ }
 {
     let position = c.position;
+    match position {
+        Standing::Known(place) => match place {
+            OPEN => goes_open(family, c),
+            FIRST => Target::Command,
+            _ => Target::Nowhere,
+        },
+        Standing::Unknown => Target::Elsewhere,
+    }
+}
+
+fn goes_open(family: Family, c: Control) -> Target
+    requires { ⌜ stands (c .position) ≡ known (at-position Open) ⌝ }
+    ensures { λ r. ⌜ Hits (sizes family) c r ⌝ }
+{
     let data = c.data;
-    if is(position, OPEN) {
-        if is(data, WRITE_DISPLAY) {
-            let address = c.address;
-            let stepping = c.stepping;
-            return goes_at(family, address, is(stepping, INCREMENT));
-        }
+    if is(data, WRITE_DISPLAY) {
+        let address = c.address;
+        let stepping = c.stepping;
+        return goes_at(family, address, is(stepping, INCREMENT));
     }
     Target::Elsewhere
 }
@@ -109,4 +129,15 @@ pub fn meets(family: Family, cells: &mut [u16], byte: u8)
 {
     let sizes = family.sizes();
     meet_all(cells, Address(0), 1, sizes.cells, byte);
+}
+
+// The byte is a command.
+pub fn command_in(family: Family, c: Control, cells: &mut [u16], byte: u8) -> Control
+    requires { ⌜ (stands (c .position) ≡ known (at-position First)) × (length (now cells) ≡ 36) ⌝ }
+    ensures { λ r. ⌜ Knows (sizes family) (move (sizes family) (ByteIn byte)) (record { cells = now (cells .entry); control = c }) (record { cells = now (cells .exit); control = r }) ⌝ }
+{
+    let next = first_in(family, c, byte);
+    let change = next.change;
+    apply(cells, change);
+    next.control
 }

@@ -8,6 +8,7 @@ mod reads;
 mod steps;
 
 pub use everyday::Target;
+pub use everyday::command_in;
 pub use everyday::counted_on;
 pub use everyday::falls;
 pub use everyday::goes_to;

@@ -3,3 +3,4 @@ pub mod Kept
 pub mod Segment
 pub mod Character
 pub mod Arrives
+pub mod CharacterArrives

@@ -1,10 +1,19 @@
 // The walk for PT6302.
 use character_knowledge::Knowledge;
-use character_known::step;
+use character_known::Target;
+use character_known::column_at;
+use character_known::drawn_on;
+use character_known::falls;
+use character_known::goes_to;
+use character_known::marked_on;
+use character_known::rises;
+use character_known::shown_on;
+use character_known::taken;
 use recording::Ending;
 use recording::Read;
 use recording::record_at;
-use standing::apply;
+use standing::put;
+use terms::Event;
 use terms::Part;
 use terms::Place;
 ghost use Rattle.walks.specs.Character.{Walks};
@@ -15,7 +24,7 @@ pub struct CharacterWalked {
     pub k: Knowledge,
 }
 
-// The rows are changed where they stand, record by record.
+// The rows are changed where they stand. The events of every day have arms of their own, and cost no call.
 pub fn character_walk(part: Part, k: Knowledge, bytes: &[u8]) -> CharacterWalked
     ensures { λ r. ⌜ Walks part k (now (bytes .entry)) r ⌝ }
 {
@@ -25,16 +34,38 @@ pub fn character_walk(part: Part, k: Knowledge, bytes: &[u8]) -> CharacterWalked
     let mut control = k.control;
     let mut i = 0;
     while i < bytes.len() {
-        match record_at(part, bytes, Place(i)) {
+        let read = record_at(part, bytes, Place(i));
+        match read {
             Read::Is(event, length) => {
-                let next = step(control, event);
-                let to_dcram = next.dcram;
-                apply(&mut dcram, to_dcram);
-                let to_cgram = next.cgram;
-                apply(&mut cgram, to_cgram);
-                let to_adram = next.adram;
-                apply(&mut adram, to_adram);
-                control = next.control;
+                match event {
+                    Event::Falls => control = falls(control),
+                    Event::Rises => control = rises(control),
+                    Event::ByteIn(byte) => {
+                        let to = goes_to(control);
+                        match to {
+                            Target::Shown(cell) => {
+                                put(&mut dcram, cell, byte);
+                                control = shown_on(control, cell);
+                            }
+                            Target::Drawn(character, column) => {
+                                put(&mut cgram, column_at(character, column), byte % 128);
+                                control = drawn_on(control, character, column);
+                            }
+                            Target::Marked(cell) => {
+                                put(&mut adram, cell, byte % 4);
+                                control = marked_on(control, cell);
+                            }
+                            Target::Elsewhere => control = taken(
+                                control,
+                                &mut dcram,
+                                &mut cgram,
+                                &mut adram,
+                                event,
+                            ),
+                        }
+                    }
+                    _ => control = taken(control, &mut dcram, &mut cgram, &mut adram, event),
+                }
                 i += length;
             }
             Read::Refused(refusal) => {

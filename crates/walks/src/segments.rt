@@ -5,6 +5,7 @@ use recording::record_at;
 use segment::Family;
 use segment_knowledge::Knowledge;
 use segment_known::Target;
+use segment_known::command_in;
 use segment_known::counted_on;
 use segment_known::falls;
 use segment_known::goes_to;
@@ -45,6 +46,13 @@ pub fn segment_walk(part: Part, family: Family, k: Knowledge, bytes: &[u8]) -> S
                                 control = counted_on(family, control, cell);
                             }
                             Target::Anywhere => meets(family, &mut cells, byte),
+                            Target::Nowhere => {}
+                            Target::Command => control = command_in(
+                                family,
+                                control,
+                                &mut cells,
+                                byte,
+                            ),
                             Target::Elsewhere => control = taken(
                                 family,
                                 control,

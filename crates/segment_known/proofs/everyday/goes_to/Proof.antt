@@ -1,33 +1,41 @@
--- `segment_known::everyday::goes_to` meets its contract: each test that holds tells one fact.
+-- `segment_known::everyday::goes_to` meets its contract: a known position is told by its number.
 -- Assumes nothing.
-use Rattle.segment.specs.Family.{sizes}
-use Rattle.segment_known.specs.Everyday.{hits}
+use mathlib.Core.Path.{_∙_, ap}
+use Rattle.knowing.specs.Standing.{known}
+use Rattle.standing.specs.View.{stands}
 use borrow.Author.Needs.{needs}
 use Rattle.segment_known.proofs.everyday.goes_to.Statement.{statement}
 use Rattle.segment_known.proofs.everyday.goes_to.Tie as tie
 
-is-requires : tie.Need-is-requires
-is-requires c κs = search needs
+enum-known-position : tie.Need-enum-known-position
+enum-known-position c = search needs
 
-is-requires-2 : tie.Need-is-requires-2
-is-requires-2 c κs = search needs
+goes-open-requires : tie.Need-goes-open-requires
+goes-open-requires c κs = ap stands (c .before .before .position .given .1) ∙ ap known (c .match2 .keys1)
 
-is-requires-3 : tie.Need-is-requires-3
-is-requires-3 c κs = search needs
-
-goes-at-requires : tie.Need-goes-at-requires
-goes-at-requires c κs = search needs
+enum-told : tie.Need-enum-told
+enum-told c = search needs
 
 returns : tie.Need-returns
-returns c = hits (sizes (c .before .before .before .before .before .before .args .family)) (c .before .before .before .before .before .before .args .c) (c .before .is3 .result) (c .goes-at .result) (c .before .before .before .before .before .is .ensures (c .before .before .before .before .if1 .taken)) (c .before .before .before .is2 .ensures (c .before .before .if2 .taken)) (c .before .is3 .ensures) (c .goes-at .ensures)
+returns c = search needs
 
 returns-2 : tie.Need-returns-2
-returns-2 c = search needs
+returns-2 c = ap stands (c .before .before .position .given .1) ∙ ap known (c .match2 .keys2)
 
 returns-3 : tie.Need-returns-3
-returns-3 c = search needs
+returns-3 c = record { place = c .before .before .position .given .0 .0; there = ap stands (c .before .before .position .given .1); not-first = c .match2 .rest .1; not-open = c .match2 .rest .0 .1 }
+
+returns-4 : tie.Need-returns-4
+returns-4 c = search needs
 
 pub goes-to-spec : {M : Type 1} → statement M
 goes-to-spec =
     tie.close
-    (tie.spec is-requires is-requires-2 is-requires-3 goes-at-requires returns returns-2 returns-3)
+    (tie.spec
+    enum-known-position
+    goes-open-requires
+    enum-told
+    returns
+    returns-2
+    returns-3
+    returns-4)

@@ -16,8 +16,9 @@ use Rattle.segment_knowledge.specs.View.{held, kview}
 use mathlib.Core.Logic.{⊎-elim}
 use Rattle.segment.specs.Laws.{room}
 use Rattle.segment_known.specs.declared.everyday.Target.{Target}
-use Rattle.segment_known.specs.Everyday.{Counting, Hits, counted, roamed}
+use Rattle.segment_known.specs.Everyday.{Counting, Hits, roamed, ignored}
 use Rattle.segment_known.specs.Moved.{step-done}
+use Rattle.segment_known.specs.Step.{keptOf}
 use Rattle.walks.specs.Arrives.{Arrives, arrived}
 use Rattle.walks.specs.Kept.{Kept, kept-start, kept-next, kept-as, kept-done, kept-stops}
 use Rattle.walks.proofs.segments.segment_walk.Statement.{statement}
@@ -83,6 +84,19 @@ meets-requires c κs = search needs
 enum-told-4 : tie.Need-enum-told-4 Inv-loop μ-loop
 enum-told-4 c = search needs
 
+enum-told-5 : tie.Need-enum-told-5 Inv-loop μ-loop
+enum-told-5 c = search needs
+
+slice-aggregate-command-in : tie.Need-slice-aggregate-command-in Inv-loop μ-loop
+slice-aggregate-command-in c = search needs
+
+command-in-requires : tie.Need-command-in-requires Inv-loop μ-loop
+command-in-requires c κs =
+    (subst (λ (t : Target). Hits (sizes (c .before .before .before .before .before .before .before .before .before .before .before .before .before .before .before .before .args .family)) (c .before .before .before .before .before .before .before .before .before .before .before .before .loop .control) t) (c .before .enum-told5 .given .1) (c .before .before .before .goes-to .ensures), c .before .before .before .before .before .before .before .before .before .before .before .before .loop .inv .1)
+
+enum-told-6 : tie.Need-enum-told-6 Inv-loop μ-loop
+enum-told-6 c = search needs
+
 slice-aggregate-taken : tie.Need-slice-aggregate-taken Inv-loop μ-loop
 slice-aggregate-taken c = search needs
 
@@ -134,8 +148,12 @@ loop-again c = let a = c .before .before .before .before .before .before .before
     (⊎-elim
     (λ x. arrived (a .family) k (x .1 .given .1) (x .9) (x .10) (x .8 .given) (step-done (a .family) k (ByteIn (x .1 .given .0 .0)) _ (x .7 .last .1 .0) (roamed (a .family) (at .control) (x .1 .given .0 .0) (subst (λ (t : Target). Hits (sizes (a .family)) (at .control) t) (x .5 .given .1) (x .3 .ensures))) (x .7 .ensures)))
     (⊎-elim
+    (λ x. arrived (a .family) k (x .1 .given .1) (x .6) (x .7) size (step-done (a .family) k (ByteIn (x .1 .given .0 .0)) (keptOf (at .control)) (at .cells) (ignored (a .family) (at .control) (x .1 .given .0 .0) (subst (λ (t : Target). Hits (sizes (a .family)) (at .control) t) (x .5 .given .1) (x .3 .ensures))) (λ i. refl)))
+    (⊎-elim
     (λ x. arrived (a .family) k (x .1 .given .1) (x .9) (x .10) (x .8 .given) (x .7 .ensures))
-    (λ x. arrived (a .family) k refl (x .4) (x .5) (x .3 .given) (x .2 .ensures)))))) (c .match2 .came) in
+    (⊎-elim
+    (λ x. arrived (a .family) k (x .1 .given .1) (x .9) (x .10) (x .8 .given) (x .7 .ensures))
+    (λ x. arrived (a .family) k refl (x .4) (x .5) (x .3 .given) (x .2 .ensures)))))))) (c .match2 .came) in
     ((omega (arith, f, d, c .before .before .before .before .before .loop-test .taken), kept-next kview same? (range (sizes (a .family))) (move (sizes (a .family))) w (a .k) (at .i) (read .0 .0) behind k _ (kept-as kview same? (range (sizes (a .family))) (move (sizes (a .family))) w (a .k) (rest (a .part) (a .bytes .now) (at .i)) (next (at .i) (read .0 .0) behind) k h (at .inv .0 .1)) (arm .knows)), arm .size)
 
 enum-known-read-2 : tie.Need-enum-known-read-2 Inv-loop μ-loop
@@ -182,6 +200,10 @@ segment-walk-spec =
     slice-aggregate-meets
     meets-requires
     enum-told-4
+    enum-told-5
+    slice-aggregate-command-in
+    command-in-requires
+    enum-told-6
     slice-aggregate-taken
     taken-requires
     slice-aggregate-taken-2
