@@ -15,7 +15,8 @@ cast-at : tie.Need-cast-at
 cast-at c = search needs
 
 meet-run-requires : tie.Need-meet-run-requires
-meet-run-requires c κs = subst (λ (n : ℕ). (i : ℕ) → i < c .before .before .before .before .args .count → c .before .before .before .before .args .from .0 + n * i < length (c .before .before .before .before .args .codes .now)) (c .before .if1 .taken) (c .before .before .before .before .pre .1)
+meet-run-requires c κs = λ i l.
+    subst (λ (n : ℕ). c .before .before .before .before .args .from .0 + n * i < length (c .before .before .before .before .args .codes .now)) (c .before .if1 .taken) (c .before .before .before .before .pre .1 i (omega (arith, l)))
 
 meet-requires : tie.Need-meet-requires
 meet-requires c κs = search needs
