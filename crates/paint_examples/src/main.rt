@@ -1,6 +1,8 @@
 // Examples of painting: each prints its answer and the whole output, which held EE before, and is compared with the file stdout, whose
 // values are from paper 01.
 use character::Lights;
+use example_text::number;
+use example_text::text;
 use libc::STDOUT_FILENO;
 use painter::Painted;
 use painting::CharacterPicture;
@@ -94,6 +96,12 @@ fn pt6302() {
 }
 
 fn refused() {
+    rooms();
+    segments();
+    characters();
+}
+
+fn rooms() {
     let good = Picture {
         segment: blank(),
         character: spaces(),
@@ -101,15 +109,29 @@ fn refused() {
     show(b"part 14\n", 0x14, good, 3);
     show(b"room 65 on PT6312\n", 0x12, good, 65);
     show(b"room 171 on PT6302\n", 0x02, good, 171);
+}
+
+fn segments() {
     show(b"mode 8 on PT6312\n", 0x12, with_mode(8), 3);
     show(b"LED 16\n", 0x15, with_led(16), 3);
     show(b"dimming 8\n", 0x15, with_dimming(8), 3);
+    modes();
+}
+
+fn modes() {
     show(b"mode 9 on PT6315\n", 0x15, with_mode(9), 3);
     show(b"room 93 on PT6315\n", 0x15, with_mode(8), 93);
     show(b"mode 9 on no part\n", 0x13, with_mode(9), 3);
+}
+
+fn characters() {
     show(b"port 4\n", 0x02, with_settings(4, 0, 0), 3);
     show(b"duty 8\n", 0x02, with_settings(0, 8, 0), 3);
     show(b"digits 8\n", 0x02, with_settings(0, 0, 8), 3);
+    memories();
+}
+
+fn memories() {
     show(b"a pair of 4\n", 0x02, with_pair(4), 3);
     show(b"a column of 80\n", 0x02, with_column(0x80), 3);
 }
@@ -166,27 +188,32 @@ fn with_column(column: u8) -> Picture {
 }
 
 fn show(name: &[u8], part: u8, picture: Picture, room: u8) {
-    io::write_all(STDOUT_FILENO, name);
+    text(name);
     let mut buffer = [0xEEu8; 256];
     let n = room as usize;
     painted(part, picture, &mut buffer[..n]);
 }
 
 fn painted(part: u8, picture: Picture, out: &mut [u8]) {
-    match painter::paint(part, picture, out) {
-        Painted::Done(place) => number(b"  0 at ", place.0),
-        Painted::NoPart(place) => number(b"  1 at ", place.0),
-        Painted::OutOfRange(place) => number(b"  9 at ", place.0),
-        Painted::TooSmall(place) => number(b"  10 at ", place.0),
-    }
+    answered(painter::paint(part, picture, out));
     bytes(&out[..]);
-    io::write_all(STDOUT_FILENO, b"\n");
+    text(b"\n");
 }
 
-fn number(name: &[u8], n: usize) {
-    io::write_all(STDOUT_FILENO, name);
-    io::print_decimal(STDOUT_FILENO, n as u64);
-    io::write_all(STDOUT_FILENO, b":");
+// Paper 01's number and place.
+fn answered(painted: Painted) {
+    match painted {
+        Painted::Done(place) => at(0, place.0),
+        Painted::NoPart(place) => at(1, place.0),
+        Painted::OutOfRange(place) => at(9, place.0),
+        Painted::TooSmall(place) => at(10, place.0),
+    }
+}
+
+fn at(answer: usize, place: usize) {
+    number(b"  ", answer);
+    number(b" at ", place);
+    text(b":");
 }
 
 fn bytes(out: &[u8]) {
@@ -198,6 +225,6 @@ fn bytes(out: &[u8]) {
 }
 
 fn byte(b: u8) {
-    io::write_all(STDOUT_FILENO, b" ");
+    text(b" ");
     io::print_hex(STDOUT_FILENO, b as u64, 2);
 }

@@ -1,6 +1,7 @@
 // The answer to an event and the report, in words.
-use crate::print;
-use libc::STDOUT_FILENO;
+use example_text::hex;
+use example_text::number;
+use example_text::text;
 use panel::Answer;
 use panel::Report;
 use segment_sent::Sending;
@@ -10,34 +11,39 @@ use terms::Place;
 pub fn show(answer: Answer) {
     match answer {
         Answer::Done => {}
-        Answer::NoPart(place) => refused(b"    refused 1 at ", place, b"\n"),
-        Answer::OutOfRange(place) => refused(b"    refused 2 at ", place, b"\n"),
+        Answer::NoPart(place) => refused(1, place),
+        Answer::OutOfRange(place) => refused(2, place),
     }
+}
+
+fn refused(n: usize, place: Place) {
+    number(b"\n    refused ", n);
+    number(b" at ", place.0);
 }
 
 pub fn tell(report: Report) {
-    print::text(b"    next byte ");
+    text(b"\n    next byte ");
     match report {
         Report::Is(sending) => sends(sending),
-        Report::NoPart(place) => refused(b"unknown, refused 1 at ", place, b""),
-        Report::OutOfRange(place) => refused(b"unknown, refused 2 at ", place, b""),
+        Report::NoPart(place) => unknown(1, place),
+        Report::OutOfRange(place) => unknown(2, place),
     }
-    print::text(b"\n");
 }
 
-fn refused(number: &[u8], place: Place, end: &[u8]) {
-    print::text(number);
-    io::print_decimal(STDOUT_FILENO, place.0 as u64);
-    print::text(end);
+fn unknown(n: usize, place: Place) {
+    number(b"unknown, refused ", n);
+    number(b" at ", place.0);
 }
 
 fn sends(sending: Sending) {
     match sending {
-        Sending::Byte(byte) => {
-            print::text(b"sends ");
-            print::hex(byte);
-        }
-        Sending::NotDriven => print::text(b"not driven"),
-        Sending::Unknown => print::text(b"unknown"),
+        Sending::Byte(byte) => sends_byte(byte),
+        Sending::NotDriven => text(b"not driven"),
+        Sending::Unknown => text(b"unknown"),
     }
+}
+
+fn sends_byte(byte: u8) {
+    text(b"sends ");
+    hex(byte);
 }

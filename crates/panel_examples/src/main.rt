@@ -17,17 +17,11 @@
 // What is written has memory, keys and addresses in hex and other numbers in decimal. Memory stands as runs, 00-06=6E; ?? is unknown and !! the code
 // 257. A refusal is its number and place, and what is known then is as it was.
 mod answers;
-mod characters;
-mod codes;
-mod example;
-mod print;
-mod reader;
-mod record;
-mod segments;
-mod show_characters;
-mod show_segments;
+mod panels;
 
-use reader::Reader;
+use example_text::Line;
+use example_text::Word;
+use example_text::character;
 
 fn main() {
     let mut buffer = io::large_buffer();
@@ -35,11 +29,23 @@ fn main() {
     run(&buffer[..n]);
 }
 
+// What is known is a value of its own, beside what was read, so that only what changes it is about it.
 fn run(examples: &[u8]) {
-    let mut reader = Reader::new();
+    let mut word = Word::new();
+    let mut line = Line::new();
+    let mut heard = panels::all_known();
     let mut i = 0;
     while i < examples.len() {
-        reader = reader.read(examples[i]);
+        let c = examples[i];
         i += 1;
+        line = line.with(word, c);
+        heard = panels::after(heard, line, word);
+        word = word.after(c);
+        if c == b'\n' {
+            panels::show(line.part, heard);
+            line = Line::new();
+            heard = panels::all_known();
+        }
+        character(c);
     }
 }

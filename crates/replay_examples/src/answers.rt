@@ -1,44 +1,59 @@
 // The answers of the replay and of the tail finder, in words.
-use crate::codes;
-use crate::print;
+use example_text::bytes;
+use example_text::character;
+use example_text::number;
+use example_text::text;
 use replay::Answer;
 use tail::Found;
-use terms::Place;
+
+pub fn replayed(answer: Answer) {
+    text(b"\n    replay ");
+    show(answer);
+}
 
 // Paper 01's number and place.
-pub fn show(answer: Answer) {
+fn show(answer: Answer) {
     match answer {
-        Answer::Done(place) => at(b"done at ", place),
-        Answer::NoPart(place) => at(b"refused 1 at ", place),
-        Answer::OutOfRange(place) => at(b"refused 2 at ", place),
-        Answer::BeyondEnd(place) => at(b"refused 3 at ", place),
-        Answer::TooLong(place) => at(b"refused 4 at ", place),
-        Answer::Unlisted(place) => at(b"refused 5 at ", place),
-        Answer::Foreign(place) => at(b"refused 6 at ", place),
-        Answer::CutShort(place) => at(b"refused 7 at ", place),
-        Answer::Forbidden(place) => at(b"refused 8 at ", place),
+        Answer::Done(place) => at(0, place.0),
+        Answer::NoPart(place) => at(1, place.0),
+        Answer::OutOfRange(place) => at(2, place.0),
+        Answer::BeyondEnd(place) => at(3, place.0),
+        Answer::TooLong(place) => at(4, place.0),
+        Answer::Unlisted(place) => at(5, place.0),
+        Answer::Foreign(place) => at(6, place.0),
+        Answer::CutShort(place) => at(7, place.0),
+        Answer::Forbidden(place) => at(8, place.0),
     }
 }
 
-fn at(words: &[u8], place: Place) {
-    print::number(words, place.0);
+fn at(n: usize, place: usize) {
+    if n == 0 {
+        text(b"done");
+    } else {
+        number(b"refused ", n);
+    }
+    number(b" at ", place);
 }
 
-pub fn found(found: Found) {
+pub fn tail(part: u8, recording: &[u8]) {
+    text(b"\n    tail ");
+    found(tail::find_tail(part, recording));
+    first(tail::tail(part, recording));
+}
+
+fn found(found: Found) {
     let answer = found.answer;
     show(answer);
-    print::number(b", from ", found.start.0);
-    print::number(b" to ", found.end.0);
+    number(b", from ", found.start.0);
+    number(b" to ", found.end.0);
 }
 
 // How long a tail is, and its first bytes: a long one would hide the rest.
-pub fn tail(tail: &[u8]) {
-    print::number(b", length ", tail.len());
-    print::text(b":");
-    if tail.len() <= 16 {
-        codes::bytes(tail);
-        return;
+fn first(tail: &[u8]) {
+    number(b", length ", tail.len());
+    character(b':');
+    bytes(tail, 16);
+    if 16 < tail.len() {
+        text(b" ..");
     }
-    codes::bytes(&tail[..16]);
-    print::text(b" ..");
 }

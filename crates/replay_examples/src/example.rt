@@ -1,20 +1,18 @@
-// An example: its part byte, its recording, which stands in lent memory, and how the replay starts.
+// An example: its part byte, how far its recording goes, which stands in lent memory, and how the replay starts.
 use crate::answers;
-use crate::print;
-use crate::repeat::repeat;
-use crate::show_characters;
-use crate::show_segments;
+use crate::memory::put;
 use crate::starts;
+use example_text::Word;
+use example_text::show_known;
 use panel::Panel;
-use segment::Family;
-use terms::Part;
-use terms::PartRead;
+use replay::Replayed;
 use terms::Place;
 
 pub struct Example {
     part: u8,
-    // Whether the part byte was read.
+    // Whether the part byte was read, and whether the line is a remark.
     begun: bool,
+    remark: bool,
     // How many bytes the recording has so far, and how many it had at the last mark.
     length: usize,
     mark: usize,
@@ -29,6 +27,7 @@ impl Example {
         Example {
             part: 0,
             begun: false,
+            remark: false,
             length: 0,
             mark: 0,
             start: 0,
@@ -38,54 +37,69 @@ impl Example {
         }
     }
 
-    pub fn take(self, byte: u8, recording: &mut [u8]) -> Example {
-        if !self.begun {
-            return Example {
-                part: byte,
-                begun: true,
-                ..self
-            };
-        }
-        let at = self.length;
-        if recording.len() <= at {
+    // With one more word, which counts where it ends.
+    pub fn with(mut self, word: Word, c: u8, memory: &mut [u8]) -> Example {
+        if !word.ends(c) {
             return self;
         }
-        recording[at] = byte;
-        Example {
-            length: at + 1,
-            ..self
+        if !self.begun {
+            return self.told(word);
         }
+        let length = put(memory, self.mark, self.length, word);
+        self.length = length;
+        self.told(word)
     }
 
-    pub fn marked(self) -> Example {
-        Example {
-            mark: self.length,
-            ..self
+    // A line that is not a remark is run where it ends.
+    pub fn ended(self, c: u8, memory: &[u8]) -> Example {
+        if c != b'\n' {
+            return self;
         }
+        if !self.remark {
+            self.show(memory);
+        }
+        Example::new()
     }
 
-    // A word and its number.
-    pub fn told(self, word: u8, number: usize, recording: &mut [u8]) -> Example {
-        match word {
-            b'@' => Example {
-                start: number,
-                ..self
-            },
-            b'*' => {
-                let length = repeat(recording, self.mark, self.length, number);
-                Example { length, ..self }
+    fn told(mut self, word: Word) -> Example {
+        let name = word.name;
+        match name {
+            b'0' => self.begins(word.byte()),
+            b'(' => {
+                self.mark = self.length;
+                self
             }
-            b'k' => Example {
-                known: true,
-                ..self
-            },
-            b'l' => Example { led: true, ..self },
-            b'p' => Example { port: true, ..self },
-            _ => self,
+            b'@' => {
+                self.start = word.number;
+                self
+            }
+            b'#' => {
+                self.remark = true;
+                self
+            }
+            _ => self.starts(name),
         }
     }
 
-    pub fn show(self, memory: &[u8]) {
+    fn begins(mut self, byte: u8) -> Example {
+        if !self.begun {
+            self.part = byte;
+            self.begun = true;
+        }
+        self
+    }
+
+    fn starts(mut self, name: u8) -> Example {
+        match name {
+            b'k' => self.known = true,
+            b'l' => self.led = true,
+            b'p' => self.port = true,
+            _ => {}
+        }
+        self
+    }
+
+    fn show(self, memory: &[u8]) {
         let length = self.length;
         if length <= memory.len() {
             self.run(&memory[..length]);
@@ -93,35 +107,22 @@ impl Example {
     }
 
     fn run(self, recording: &[u8]) {
-        let part = self.part;
         let before = starts::panel(self.known, self.led, self.port);
-        let replayed = replay::replay(part, before, recording, Place(self.start));
-        print::text(b"    replay ");
+        let replayed = replays(self.part, before, recording, self.start);
         let answer = replayed.answer;
-        answers::show(answer);
-        print::text(b"\n");
+        answers::replayed(answer);
         let after = replayed.panel;
-        self.knows(after);
-        print::text(b"    tail ");
-        answers::found(tail::find_tail(part, recording));
-        answers::tail(tail::tail(part, recording));
-        print::text(b"\n");
+        show_known(
+            self.part,
+            after.segment,
+            after.character,
+            self.worded(),
+            false,
+        );
+        answers::tail(self.part, recording);
     }
 
-    // The half that the part byte asks for, or both.
-    fn knows(self, panel: Panel) {
-        let worded = self.worded();
-        match terms::part_of(self.part) {
-            PartRead::Is(part) => match part {
-                Part::Pt6302 => halves(worded, Family::Pt6315, true, panel),
-                Part::Pt6312 => halves(true, Family::Pt6312, worded, panel),
-                Part::Pt6315 => halves(true, Family::Pt6315, worded, panel),
-            },
-            PartRead::Refused(_) => halves(true, Family::Pt6315, true, panel),
-        }
-    }
-
-    // Whether the line says what is known before.
+    // Whether the line says what is known before: then both halves are shown.
     fn worded(self) -> bool {
         if self.known {
             return true;
@@ -133,11 +134,6 @@ impl Example {
     }
 }
 
-fn halves(segment: bool, family: Family, character: bool, panel: Panel) {
-    if segment {
-        show_segments::show(family, panel.segment);
-    }
-    if character {
-        show_characters::show(panel.character);
-    }
+fn replays(part: u8, before: Panel, recording: &[u8], start: usize) -> Replayed {
+    replay::replay(part, before, recording, Place(start))
 }

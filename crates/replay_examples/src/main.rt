@@ -15,29 +15,31 @@
 // facts only the known ones are there. Where the part byte names no part, or one of the last three words stands in the line, both halves of the
 // knowledge are shown, so that one sees what a refusal leaves as it was.
 mod answers;
-mod codes;
 mod example;
-mod print;
-mod reader;
-mod repeat;
-mod show_characters;
-mod show_segments;
+mod memory;
 mod starts;
 
-use reader::Reader;
+use example::Example;
+use example_text::Word;
+use example_text::character;
 
 fn main() {
     let mut buffer = io::large_buffer();
     let n = io::read_full(0, &mut buffer);
-    let mut recording = [0u8; 65600];
-    run(&buffer[..n], &mut recording);
+    let mut memory = [0u8; 65600];
+    run(&buffer[..n], &mut memory);
 }
 
-fn run(examples: &[u8], recording: &mut [u8]) {
-    let mut reader = Reader::new();
+fn run(examples: &[u8], memory: &mut [u8]) {
+    let mut word = Word::new();
+    let mut example = Example::new();
     let mut i = 0;
     while i < examples.len() {
-        reader = reader.read(examples[i], recording);
+        let c = examples[i];
         i += 1;
+        example = example.with(word, c, memory);
+        example = example.ended(c, memory);
+        word = word.after(c);
+        character(c);
     }
 }

@@ -1,88 +1,49 @@
 // What a replay starts from.
+use example_text::Word;
+use example_text::known_characters;
+use example_text::known_segments;
+use example_text::told_characters;
+use example_text::told_segments;
 use panel::Panel;
-use standing::Standing;
-use terms::Address;
 
 // Knowing nothing or everything, and then with a value out of range in a half.
 pub fn panel(known: bool, led: bool, port: bool) -> Panel {
-    let start = if known {
-        all_known()
-    } else {
-        panel::nothing_known()
-    };
-    let segment = if led {
-        wrong_led(start.segment)
-    } else {
-        start.segment
-    };
-    let character = if port {
-        wrong_port(start.character)
-    } else {
-        start.character
-    };
-    Panel { segment, character }
-}
-
-// Both halves in the middle of writing, with a value that shows in every fact.
-fn all_known() -> Panel {
     Panel {
-        segment: segments(),
-        character: characters(),
+        segment: segments(known, led),
+        character: characters(known, port),
     }
 }
 
-fn segments() -> segment_knowledge::Knowledge {
-    segment_knowledge::Knowledge {
-        cells: [0x6E; 36],
-        control: segment_knowledge::Control {
-            address: segment_knowledge::Pointing::At(Address(5)),
-            data: Standing::Known(segment_knowledge::WRITE_DISPLAY),
-            stepping: Standing::Known(segment_knowledge::INCREMENT),
-            mode: Standing::Known(3),
-            dimming: Standing::Known(5),
-            display: Standing::Known(segment_knowledge::ON),
-            led: Standing::Known(9),
-            keys: [0xA1, 0xA2, 0xA3, 0xA4],
-            switches: Standing::Known(6),
-            count: Standing::Known(2),
-            position: Standing::Known(segment_knowledge::OPEN),
-        },
-    }
-}
-
-fn characters() -> character_knowledge::Knowledge {
-    character_knowledge::Knowledge {
-        dcram: [0x6E; 16],
-        cgram: [0x6E; 40],
-        adram: [2; 16],
-        control: character_knowledge::Control {
-            dcram_at: character_knowledge::Pointing::At(Address(5)),
-            cgram_at: character_knowledge::Pointing::At(Address(6)),
-            adram_at: character_knowledge::Pointing::At(Address(7)),
-            column: Standing::Known(3),
-            port: Standing::Known(2),
-            duty: Standing::Known(5),
-            digits: Standing::Known(4),
-            lights: Standing::Known(character_knowledge::ON),
-            position: Standing::Known(character_knowledge::DCRAM),
-        },
-    }
-}
-
-fn wrong_led(k: segment_knowledge::Knowledge) -> segment_knowledge::Knowledge {
-    let c = k.control;
-    let control = segment_knowledge::Control {
-        led: Standing::Known(16),
-        ..c
+fn segments(known: bool, led: bool) -> segment_knowledge::Knowledge {
+    let k = if known {
+        known_segments()
+    } else {
+        segment_knowledge::nothing_known()
     };
-    segment_knowledge::Knowledge { control, ..k }
+    if led {
+        told_segments(k, telling(b'l', 16))
+    } else {
+        k
+    }
 }
 
-fn wrong_port(k: character_knowledge::Knowledge) -> character_knowledge::Knowledge {
-    let c = k.control;
-    let control = character_knowledge::Control {
-        port: Standing::Known(4),
-        ..c
+fn characters(known: bool, port: bool) -> character_knowledge::Knowledge {
+    let k = if known {
+        known_characters()
+    } else {
+        character_knowledge::nothing_known()
     };
-    character_knowledge::Knowledge { control, ..k }
+    if port {
+        told_characters(k, telling(b'o', 4))
+    } else {
+        k
+    }
+}
+
+fn telling(name: u8, number: usize) -> Word {
+    Word {
+        name,
+        at: 0,
+        number,
+    }
 }

@@ -6,8 +6,8 @@ use borrow.Author.Needs.{needs}
 use Rattle.paint_examples.proofs.show.Statement.{statement}
 use Rattle.paint_examples.proofs.show.Tie as tie
 
-write-all-requires : tie.Need-write-all-requires
-write-all-requires c κs = search needs
+text-requires : tie.Need-text-requires
+text-requires c κs = search needs
 
 array-borrow-prefix-buffer : tie.Need-array-borrow-prefix-buffer
 array-borrow-prefix-buffer c = search needs
@@ -25,7 +25,7 @@ pub show-spec : {M : Type 1} → statement M
 show-spec =
     tie.close
     (tie.spec
-    write-all-requires
+    text-requires
     array-borrow-prefix-buffer
     slice-aggregate-painted
     painted-requires

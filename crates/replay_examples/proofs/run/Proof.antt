@@ -8,26 +8,37 @@ use Rattle.replay_examples.proofs.run.Statement.{statement}
 use Rattle.replay_examples.proofs.run.Tie as tie
 
 abbrev Inv-loop : tie.InvT-loop
-Inv-loop examples recording₀ reader₀ i₀ recording reader i =
-    (i ≤ length examples) × (length recording ≡ length recording₀)
+Inv-loop examples memory₀ word₀ example₀ i₀ memory word example i = (i ≤ length examples) × (length memory ≡ length memory₀)
 
 abbrev μ-loop : tie.MeasureT-loop
-μ-loop examples recording₀ reader₀ i₀ recording reader i = length examples - i
+μ-loop examples memory₀ word₀ example₀ i₀ memory word example i = length examples - i
 
 new-requires : tie.Need-new-requires Inv-loop μ-loop
 new-requires c κs = search needs
 
+new-requires-2 : tie.Need-new-requires-2 Inv-loop μ-loop
+new-requires-2 c κs = search needs
+
 loop-holds : tie.Need-loop-holds Inv-loop μ-loop
 loop-holds c = search needs
 
-shared-slice-read-read : tie.Need-shared-slice-read-read Inv-loop μ-loop
-shared-slice-read-read c = search needs
-
-read-requires : tie.Need-read-requires Inv-loop μ-loop
-read-requires c κs = search needs
+shared-slice-read-c : tie.Need-shared-slice-read-c Inv-loop μ-loop
+shared-slice-read-c c = search needs
 
 add-i : tie.Need-add-i Inv-loop μ-loop
 add-i c = search needs
+
+with-requires : tie.Need-with-requires Inv-loop μ-loop
+with-requires c κs = search needs
+
+ended-requires : tie.Need-ended-requires Inv-loop μ-loop
+ended-requires c κs = search needs
+
+after-requires : tie.Need-after-requires Inv-loop μ-loop
+after-requires c κs = search needs
+
+character-requires : tie.Need-character-requires Inv-loop μ-loop
+character-requires c κs = search needs
 
 loop-less : tie.Need-loop-less Inv-loop μ-loop
 loop-less c = search needs
@@ -48,10 +59,14 @@ run-spec =
     Inv-loop
     μ-loop
     new-requires
+    new-requires-2
     loop-holds
-    shared-slice-read-read
-    read-requires
+    shared-slice-read-c
     add-i
+    with-requires
+    ended-requires
+    after-requires
+    character-requires
     loop-less
     loop-again
     same-length

@@ -1,4 +1,4 @@
--- `Example::show` meets its contract, which says nothing: the recording is no longer than the memory that it stands in.
+-- `example::Example::show` meets its contract, which says nothing: the recording is no longer than the memory that it stands in.
 -- Assumes nothing.
 use native.Mathlib.Omega.{arith}
 use lib.ListN.{length-take}

@@ -1,0 +1,82 @@
+// What is known of a PT6302 panel, in words.
+use crate::codes;
+use crate::facts::code;
+use crate::facts::show_facts;
+use crate::print;
+use character_knowledge::Control;
+use character_knowledge::Knowledge;
+use character_knowledge::Pointing;
+
+// Writes everything, and what is unknown, on three lines, or all but unknown single facts on one. It begins with a line end and has none behind it.
+pub fn show_characters(k: Knowledge, all: bool) {
+    let row = codes_of(k.control);
+    if all {
+        control(row, true);
+        memory(k, b';');
+    } else {
+        memory(k, b',');
+        control(row, false);
+    }
+}
+
+fn codes_of(c: Control) -> [u16; 10] {
+    let position = c.position;
+    let dcram = c.dcram_at;
+    let cgram = c.cgram_at;
+    let column = c.column;
+    let adram = c.adram_at;
+    let port = c.port;
+    let duty = c.duty;
+    let digits = c.digits;
+    let lights = c.lights;
+    [
+        code(position),
+        address(dcram),
+        address(cgram),
+        code(column),
+        address(adram),
+        code(port),
+        code(duty),
+        code(digits),
+        code(lights),
+        256,
+    ]
+}
+
+fn address(to: Pointing) -> u16 {
+    match to {
+        Pointing::At(cell) => cell.0 as u16 + 512,
+        Pointing::Unknown => 256,
+    }
+}
+
+// The names stand in the order of the numbers that `character_knowledge` gives them.
+fn control(codes: [u16; 10], all: bool) {
+    show_facts(
+        b"\n    |position /idle/first byte/to DCRAM/to CGRAM/to ADRAM/ignoring;, |DCRAM at ;, |CGRAM at ;, |column ;, |ADRAM at ;\n    |port ;, |duty ;, |digits ;, |lights /normal/off/on",
+        codes,
+        0,
+        9,
+        all,
+    );
+}
+
+// The RAMs stand on one line, with a mark between them.
+fn memory(k: Knowledge, mark: u8) {
+    let dcram = k.dcram;
+    sixteen(b"\n    DCRAM", dcram);
+    print::character(mark);
+    let cgram = k.cgram;
+    forty(cgram);
+    print::character(mark);
+    let adram = k.adram;
+    sixteen(b" ADRAM", adram);
+}
+
+fn sixteen(name: &[u8], codes: [u16; 16]) {
+    codes::runs(name, &codes, 16);
+}
+
+fn forty(codes: [u16; 40]) {
+    codes::runs(b" CGRAM", &codes, 40);
+}

@@ -1,0 +1,79 @@
+// What a word says of PT6302.
+use crate::word::Word;
+use character_knowledge::Control;
+use character_knowledge::Knowledge;
+use character_knowledge::Pointing;
+use character_knowledge::nothing_known;
+use terms::Address;
+
+// What is known after a word, of which the first letter counts.
+pub fn told_characters(k: Knowledge, word: Word) -> Knowledge {
+    if word.name == b'n' {
+        return nothing_known();
+    }
+    let text = k.dcram;
+    let shapes = k.cgram;
+    let marks = k.adram;
+    let dcram = sixteen_told(text, word.name == b't', word);
+    let cgram = forty_told(shapes, word.name == b's', word);
+    let adram = sixteen_told(marks, word.name == b'm', word);
+    Knowledge {
+        dcram,
+        cgram,
+        adram,
+        control: control_told(k.control, word),
+    }
+}
+
+fn control_told(c: Control, word: Word) -> Control {
+    let dcram_at = c.dcram_at;
+    let cgram_at = c.cgram_at;
+    let adram_at = c.adram_at;
+    let column = c.column;
+    let port = c.port;
+    let duty = c.duty;
+    let digits = c.digits;
+    let lights = c.lights;
+    let position = c.position;
+    Control {
+        dcram_at: address_told(word, b'd', dcram_at),
+        cgram_at: address_told(word, b'g', cgram_at),
+        adram_at: address_told(word, b'a', adram_at),
+        column: word.tells(b'c', column),
+        port: word.tells(b'o', port),
+        duty: word.tells(b'b', duty),
+        digits: word.tells(b'w', digits),
+        lights: word.tells(b'l', lights),
+        position: word.tells(b'p', position),
+    }
+}
+
+fn address_told(word: Word, name: u8, before: Pointing) -> Pointing {
+    if word.name != name {
+        return before;
+    }
+    let code = word.code();
+    if code < 256 {
+        Pointing::At(Address((code % 256) as u8))
+    } else {
+        Pointing::Unknown
+    }
+}
+
+fn sixteen_told(codes: [u16; 16], is: bool, word: Word) -> [u16; 16] {
+    let mut new = codes;
+    let at = word.at;
+    if is && at < 16 {
+        new[at] = word.code();
+    }
+    new
+}
+
+fn forty_told(codes: [u16; 40], is: bool, word: Word) -> [u16; 40] {
+    let mut new = codes;
+    let at = word.at;
+    if is && at < 40 {
+        new[at] = word.code();
+    }
+    new
+}

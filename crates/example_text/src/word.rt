@@ -1,0 +1,92 @@
+// A line's words, character by character. A word is a byte in hex, or a name that may have numbers in hex: as cell07=09, cell07? or @0007.
+use standing::Standing;
+
+pub struct Word {
+    // The first character that is part of no number; 0 where nothing was read, and the digit 0 where only digits were.
+    pub name: u8,
+    // The number before =, ? or !.
+    pub at: usize,
+    // The number that stands last, where ? stands for the code 256 and ! for 257.
+    pub number: usize,
+}
+
+impl Word {
+    // A word of which nothing was read.
+    pub fn new() -> Word {
+        Word {
+            name: 0,
+            at: 0,
+            number: 0,
+        }
+    }
+
+    // Whether a word ends at a character: at a space or with its line, and a remark, which begins with #, with its line alone.
+    pub fn ends(self, c: u8) -> bool {
+        if c == b' ' {
+            return self.name != b'#';
+        }
+        c == b'\n'
+    }
+
+    // The word that is being read after one more character.
+    pub fn after(self, c: u8) -> Word {
+        if self.ends(c) {
+            Word::new()
+        } else {
+            self.with(c)
+        }
+    }
+
+    // A closing bracket counts for nothing.
+    fn with(self, c: u8) -> Word {
+        match c {
+            b'0'..=b'9' => self.with_digit(c - 48),
+            b'A'..=b'F' => self.with_digit(c - 55),
+            b'=' => self.with_code(0),
+            b'?' => self.with_code(256),
+            b'!' => self.with_code(257),
+            b')' => self,
+            _ => self.with_name(c),
+        }
+    }
+
+    fn with_digit(mut self, d: u8) -> Word {
+        self.number = self.number % 65536 * 16 + d as usize;
+        self.with_name(b'0')
+    }
+
+    fn with_code(mut self, code: usize) -> Word {
+        self.at = self.number;
+        self.number = code;
+        self
+    }
+
+    fn with_name(mut self, c: u8) -> Word {
+        if self.name == 0 {
+            self.name = c;
+        }
+        self
+    }
+
+    // The byte that it is, where it is one.
+    pub fn byte(self) -> u8 {
+        (self.number % 256) as u8
+    }
+
+    // A single fact after the word, which changes it where it has its name.
+    pub fn tells(self, name: u8, before: Standing) -> Standing {
+        if self.name != name {
+            return before;
+        }
+        if self.number < 256 {
+            Standing::Known(self.byte())
+        } else {
+            Standing::Unknown
+        }
+    }
+
+    // The code that it sets.
+    pub fn code(self) -> u16 {
+        (self.number % 65536) as u16
+    }
+}
