@@ -13,10 +13,7 @@ use Rattle.recording.specs.declared.read.Read.the-variants.{Is, Refused}
 use Rattle.recording.specs.Record.{listed, belongs, bodyOf, allowed, eventOf, front}
 use Rattle.recording.specs.Walk.{next, stops, walk, walked, events}
 use Rattle.whole.specs.Usual.{Each}
-
--- Every element is a byte. This holds of every recording that code is lent.
-abbrev pub AllBytes : List ℕ → Type 0
-AllBytes l = (i : ℕ) → getD l i 0 < 256
+use Rattle.demand.specs.Recording.{AllBytes, eventsFrom}
 
 event-carries : (k b0 b1 b2 b3 : ℕ) → b0 < 256 → b1 < 256 → b2 < 256 → b3 < 256 → Bytes (eventOf k b0 b1 b2 b3)
 event-carries k b0 b1 b2 b3 h0 h1 h2 h3 =
@@ -60,5 +57,5 @@ walk-carries (suc n) p at (b ∷ l) h = go (front p (b ∷ l)) (carried p (b ∷
     go (Is e m) c ih = (c, ih m)
     go (Refused x) c ih = tt
 
-pub carry : (p : Part) (start : ℕ) (l : List ℕ) → AllBytes l → Each Bytes (events (walked p (drop start l)))
+pub carry : (p : Part) (start : ℕ) (l : List ℕ) → AllBytes l → Each Bytes (eventsFrom p start l)
 carry p start l h = walk-carries (length (drop start l)) p 0 (drop start l) (drop-bytes start l h)

@@ -1,5 +1,7 @@
+pub mod Recording
 pub mod Bytes
-pub mod Segment
-pub mod Character
+pub mod Demand
 pub mod Append
+pub mod Gaps
+pub mod Tail
 pub mod Painting

@@ -1,88 +1,89 @@
--- A painting is always accepted, and replayed from any good knowledge it ends knowing exactly the picture. The argument: a painting is shorter than a recording may
--- be and all its records are good, so that the replay's tests let it pass; its events in turn leave the picture known (`repainted`).
+-- The painted bytes, from `paint` to a chip and from `paint` to `replay`. The argument: what the painter wrote in front is the recording of the painting's
+-- events (`painter/ByPart`), which is read back as these events (`repainted/ByPart`); they lead every chip to the painted one (`painting/Demand`), and every
+-- knowledge to the repainted one.
 use Prim.Native.Nat.{ℕ, _≤_}
 use native.Mathlib.Omega.{arith}
-use mathlib.Core.Path.{_≡_, _∙_, subst}
+use mathlib.Core.Path.{_≡_, sym, ap, _∙_, subst, subst⁻¹}
+use mathlib.Core.List.{List, map}
 use lib.ListN.{length, take}
-use lib.Seq.{length-take-le}
 use Rattle.knowing.specs.Standing.{Sound}
+use Rattle.knowing.specs.Turn.{inTurn}
+use Rattle.terms.specs.declared.Event.{Event}
 use Rattle.terms.specs.Event.{recording}
+use Rattle.terms.specs.Part.{partOf}
 use Rattle.terms.specs.declared.Part.{Part}
-use Rattle.terms.specs.declared.Part.the-variants.{Pt6302}
-use Rattle.recording.specs.Walk.{walked, events}
-use Rattle.recording.specs.declared.ending.Ending.{Ending}
+use Rattle.terms.specs.declared.Part.the-variants.{Pt6302, Pt6312, Pt6315}
+use Rattle.terms.specs.declared.PartRead.the-variants.{Is}
 use Rattle.recording.specs.declared.ending.Ending.the-variants.{Done}
-use Rattle.segment.specs.declared.chip.Family.{Family}
-use Rattle.segment.specs.Family.{sizes}
-use Rattle.segment.specs.Fact as SegmentFact
-use Rattle.segment.specs.Laws.{room}
-use Rattle.segment_knowledge.specs.View as OfSegment
-use Rattle.character.specs.Fact as CharacterFact
-use Rattle.character.specs.Value.{lit}
-use Rattle.character_knowledge.specs.View as OfCharacter
-use Rattle.painting.specs.declared.SegmentPicture.{SegmentPicture}
-use Rattle.painting.specs.declared.CharacterPicture.{CharacterPicture}
-use Rattle.painting.specs.Segment as SegmentPainting
-use Rattle.painting.specs.Character as CharacterPainting
-use Rattle.painter.specs.Stream.{five-length, seven-length}
+use Rattle.recording.specs.Walk.{walked, events, endOf}
+use Rattle.parts.specs.Facts.{Fact, same?, range, move}
+use Rattle.painting.specs.declared.Picture.{Picture}
+use Rattle.painting.specs.Picture.{Shaped, PictureInRange, eventsFor, paintedBy, OneEnd}
+use Rattle.painting.specs.Demand.{painting-paints}
+use Rattle.painter.specs.declared.Painted.{Painted}
+use Rattle.painter.specs.Answer as Paint
+use Rattle.painter.specs.ByPart.{sizeFor, painting-length, paint-done, paint-front}
 use Rattle.panel.specs.declared.knowledge.Panel.{Panel}
+use Rattle.panel.specs.View.{knownOf, OtherKept}
 use Rattle.replay.specs.declared.answer.Replayed.{Replayed}
-use Rattle.replay.specs.Answer.{number}
-use Rattle.replay.specs.Replay.{SegmentDone, CharacterDone, Ends, SegmentReplays, CharacterReplays}
-use Rattle.demand.specs.Append.{passed}
-use Rattle.repainted.specs.Segment as Segment
-use Rattle.repainted.specs.Character as Character
-use Rattle.repainted.specs.Replayed.{segment-replayed, character-replayed}
+use Rattle.replay.specs.Answer as Replay
+use Rattle.replay.specs.Replay.{Replays}
+use Rattle.replay.specs.ByPart.{PartDone, replays-by, accepts}
+use Rattle.repainted.specs.Repainted.{repaintedBy}
+use Rattle.repainted.specs.ByPart.{painting-accepted, painting-repaints}
+use Rattle.demand.specs.Recording.{eventsFrom}
 
-done : (e : Ending) (start : ℕ) (k : Panel) (r : Replayed) (P : Type 0) → e ≡ Done → Ends e start k r P → P
-done e start k r P q h = subst (λ (x : Ending). Ends x start k r P) q h
+-- No painting is longer than a recording may be.
+size-allowed : (p : Part) → sizeFor p ≤ 65535
+size-allowed Pt6302 = omega arith
+size-allowed Pt6312 = omega arith
+size-allowed Pt6315 = omega arith
 
-module _ (part : Part) (q : Family) (p : SegmentPicture) (fits : SegmentPainting.Within (sizes q) p) (whole : length (p .cells) ≡ 36) (k : Panel) (r : Replayed) where
-  short : length (recording (SegmentPainting.painting (sizes q) p)) ≤ 65535
-  short =
-      let f = five-length (p .mode) (p .led) (SegmentPainting.control p) (take (sizes q .cells) (p .cells)) in
-      let m = room q .0 in
-      let t = length-take-le (sizes q .cells) (p .cells) (omega (arith, whole, m)) in
-      omega (arith, f, t, m)
+-- A part byte that names a part, a picture within its ranges, and room enough; the answer r and the output afterwards are what `paint` promises.
+module _ (b : ℕ) (p : Part) (named : partOf b ≡ Is p) (pic : Picture) (shaped : Shaped pic) (fits : PictureInRange p pic) (out : List ℕ)
+    (enough : sizeFor p ≤ length out) (r : Painted) (after : List ℕ) (answers : r ≡ Paint.answer b pic (length out)) (wrote : after ≡ Paint.output b pic out) where
+  -- The bytes that `paint` wrote: those before its place.
+  abbrev pub stream : List ℕ
+  stream = take (Paint.place r .0) after
 
-  pub segment-painting : Sound (SegmentFact.range (sizes q)) (OfSegment.kview (k .segment)) → SegmentReplays part q k (recording (SegmentPainting.painting (sizes q) p)) 0 r
-      → (number (r .answer) ≡ 0) × Segment.Known (sizes q) p (OfSegment.kview (r .panel .segment))
-  segment-painting s h =
-      let x = segment-replayed part q p fits whole (OfSegment.kview (k .segment)) in
-      let d : SegmentDone q (events (walked part (recording (SegmentPainting.painting (sizes q) p)))) k (recording (SegmentPainting.painting (sizes q) p)) r =
-      done _ 0 k r _ (x .done) (passed _ _ k (recording (SegmentPainting.painting (sizes q) p)) r s short h) in
-      let t = x .then in (
+  is-done : r ≡ Painted.Done (record { 0 = sizeFor p })
+  is-done = answers ∙ paint-done b p named pic shaped fits out enough
+
+  -- It is painted: number 0, and the place is the size of the part's painting.
+  pub paint-answers : (Paint.number r ≡ 0) × (Paint.place r .0 ≡ sizeFor p)
+  paint-answers = (ap Paint.number is-done, ap (λ (a : Painted). Paint.place a .0) is-done)
+
+  stream-is : stream ≡ recording (eventsFor p pic)
+  stream-is =
+      ap (λ (n : ℕ). take n after) (paint-answers .1) ∙ ap (λ (l : List ℕ). take (sizeFor p) l) wrote ∙ paint-front b p named pic shaped fits out enough
+
+  reads : (endOf (walked p stream) ≡ Done) × (events (walked p stream) ≡ eventsFor p pic)
+  reads =
+      subst⁻¹ (λ (l : List ℕ). (endOf (walked p l) ≡ Done) × (events (walked p l) ≡ eventsFor p pic)) stream-is (painting-accepted p pic)
+
+  -- "The stream that paints a picture, fed to that part in any state, leaves exactly that memory and those settings": the bytes that `paint` wrote are
+  -- records to their end, and their events lead any chip to exactly one, the painted one.
+  pub paint-paints : (endOf (walked p stream) ≡ Done) × ((c : Fact p → ℕ) → OneEnd (range p) (map (move p) (eventsFrom p 0 stream)) c (paintedBy p pic c))
+  paint-paints = (
+    reads .0,
+    λ c. subst⁻¹ (λ (es : List Event). OneEnd (range p) (map (move p) es) c (paintedBy p pic c)) (reads .1) (painting-paints p pic shaped fits c),
+  )
+
+  -- The bytes that `paint` wrote, replayed from any good knowledge: accepted, and every fact that a painting settles is known, as `repaintedBy` says; the others
+  -- are known as they were.
+  pub paint-replays : (k : Panel) (q : Replayed) → Sound (range p) (knownOf p k) → Replays (partOf b) k stream 0 q
+      → (Replay.number (q .answer) ≡ 0) × (Replay.place (q .answer) ≡ sizeFor p)
+      × ((f : Fact p) → knownOf p (q .panel) f ≡ repaintedBy p pic (knownOf p k) f) × OtherKept p k (q .panel)
+  paint-replays k q sound met =
+      let long : length stream ≡ sizeFor p = ap length stream-is ∙ painting-length p pic shaped in
+      let allowed = size-allowed p in
+      let d : PartDone p (eventsFrom p 0 stream) k stream q =
+      accepts p k stream 0 q (replays-by k stream 0 q (partOf b) p named met)
+      (record { in-range = sound; short = omega (arith, long, allowed); within = omega arith; ends = reads .0 }) in (
         d .numbered,
-        record {
-          cells-known = λ i l. d .known (SegmentFact.cell i) ∙ t .cells-known i l;
-          mode-known = d .known SegmentFact.mode ∙ t .mode-known;
-          dimming-known = d .known SegmentFact.dimming ∙ t .dimming-known;
-          display-known = d .known SegmentFact.display ∙ t .display-known;
-          led-known = d .known SegmentFact.led ∙ t .led-known;
-        },
-      )
-
-module _ (p : CharacterPicture) (fits : CharacterPainting.Within p) (d16 : length (p .dcram) ≡ 16) (g40 : length (p .cgram) ≡ 40) (a16 : length (p .adram) ≡ 16) (k : Panel) (r : Replayed) where
-  brief : length (recording (CharacterPainting.painting p)) ≤ 65535
-  brief =
-      let f = seven-length (p .dcram) (p .cgram) (p .adram) (CharacterPainting.fourSettings (p .port) (p .duty) (p .digits) (lit (p .lights))) in
-      omega (arith, f, d16, g40, a16)
-
-  pub character-painting : Sound CharacterFact.range (OfCharacter.kview (k .character)) → CharacterReplays k (recording (CharacterPainting.painting p)) 0 r
-      → (number (r .answer) ≡ 0) × Character.Known p (OfCharacter.kview (r .panel .character))
-  character-painting s h =
-      let x = character-replayed Pt6302 p fits d16 g40 a16 (OfCharacter.kview (k .character)) in
-      let d : CharacterDone (events (walked Pt6302 (recording (CharacterPainting.painting p)))) k (recording (CharacterPainting.painting p)) r =
-      done _ 0 k r _ (x .done) (passed _ _ k (recording (CharacterPainting.painting p)) r s brief h) in
-      let t = x .then in (
-        d .numbered,
-        record {
-          dcram-known = λ i l. d .known (CharacterFact.dcram i) ∙ t .dcram-known i l;
-          cgram-known = λ i l. d .known (CharacterFact.cgram i) ∙ t .cgram-known i l;
-          adram-known = λ i l. d .known (CharacterFact.adram i) ∙ t .adram-known i l;
-          port-known = d .known CharacterFact.port ∙ t .port-known;
-          duty-known = d .known CharacterFact.duty ∙ t .duty-known;
-          digits-known = d .known CharacterFact.digits ∙ t .digits-known;
-          lights-known = d .known CharacterFact.lights ∙ t .lights-known;
-        },
+        d .placed ∙ long,
+        λ f. d .known f
+            ∙ ap (λ (es : List Event). inTurn (same? p) (range p) (map (move p) es) (knownOf p k) f) (reads .1)
+            ∙ painting-repaints p pic shaped fits (knownOf p k) f,
+        d .kept,
       )

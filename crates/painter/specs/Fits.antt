@@ -50,17 +50,17 @@ below-all n [] h = refl
 below-all n (x ∷ l) h = and (ltb x n) (allBelow n l) (lt-ltb x n (h 0)) (below-all n l (λ i. h (suc i)))
 
 -- The test holds exactly where the picture is within its ranges.
-pub segment-fits : (s : Sizes) (p : SegmentPicture) → segmentFits s p ≡ true → OfSegment.Within s p
+pub segment-fits : (s : Sizes) (p : SegmentPicture) → segmentFits s p ≡ true → OfSegment.InRanges s p
 segment-fits s p e =
     let m = both (ltb (p .mode) (Segment.range s Segment.mode)) _ e in
     let d = both (ltb (p .dimming) 8) _ (m .1) in
     record { mode-in = ltb-true (p .mode) _ (m .0); dimming-in = ltb-true (p .dimming) 8 (d .0); led-in = ltb-true (p .led) 16 (d .1) }
 
-pub fits-segment : (s : Sizes) (p : SegmentPicture) → OfSegment.Within s p → segmentFits s p ≡ true
+pub fits-segment : (s : Sizes) (p : SegmentPicture) → OfSegment.InRanges s p → segmentFits s p ≡ true
 fits-segment s p h =
     and _ _ (lt-ltb (p .mode) _ (h .mode-in)) (and _ _ (lt-ltb (p .dimming) 8 (h .dimming-in)) (lt-ltb (p .led) 16 (h .led-in)))
 
-pub character-fits : (p : CharacterPicture) → characterFits p ≡ true → OfCharacter.Within p
+pub character-fits : (p : CharacterPicture) → characterFits p ≡ true → OfCharacter.InRanges p
 character-fits p e =
     let g = both (allBelow 128 (p .cgram)) _ e in
     let a = both (allBelow 4 (p .adram)) _ (g .1) in
@@ -74,7 +74,7 @@ character-fits p e =
       digits-in = ltb-true (p .digits) 8 (u .1);
     }
 
-pub fits-character : (p : CharacterPicture) → OfCharacter.Within p → characterFits p ≡ true
+pub fits-character : (p : CharacterPicture) → OfCharacter.InRanges p → characterFits p ≡ true
 fits-character p h =
     and _ _ (below-all 128 (p .cgram) (h .columns-in))
     (and _ _ (below-all 4 (p .adram) (h .pairs-in))

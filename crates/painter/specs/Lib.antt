@@ -2,3 +2,4 @@ pub mod Fits
 pub mod Answer
 pub mod Stream
 pub mod Laws
+pub mod ByPart

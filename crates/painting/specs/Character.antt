@@ -12,7 +12,7 @@ use Rattle.character.specs.Value.{lit, at-position}
 use Rattle.painting.specs.declared.CharacterPicture.{CharacterPicture}
 
 -- The picture's values are in their facts' ranges. A DCRAM cell is a byte, and the lights a name of their own.
-pub record Within (p : CharacterPicture) : Type 0 where
+pub record InRanges (p : CharacterPicture) : Type 0 where
   pub columns-in : (i : ℕ) → getD (p .cgram) i 0 < range (cgram i)
   pub pairs-in : (i : ℕ) → getD (p .adram) i 0 < range (adram i)
   pub port-in : p .port < range port

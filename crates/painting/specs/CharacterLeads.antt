@@ -28,7 +28,7 @@ use Rattle.character.specs.Command.{commandOf}
 use Rattle.character.specs.Move.{sets, commanded, drawn, byteIn, move}
 use Rattle.character.specs.Laws.{every, dcram-apart, cgram-apart, adram-apart}
 use Rattle.painting.specs.declared.CharacterPicture.{CharacterPicture}
-use Rattle.painting.specs.Character.{Within, painting, painted}
+use Rattle.painting.specs.Character.{InRanges, painting, painted}
 
 abbrev Chip : Type 0
 Chip = Fact → ℕ
@@ -251,7 +251,7 @@ cgram-row base q = record {
   stores = λ i b c h p. column-moves i b c h (p .rest position refl ∙ q) (p .counts);
 }
 
-module _ (p : CharacterPicture) (fits : Within p) (d16 : length (p .dcram) ≡ 16) (g40 : length (p .cgram) ≡ 40) (a16 : length (p .adram) ≡ 16) (c : Chip) where
+module _ (p : CharacterPicture) (fits : InRanges p) (d16 : length (p .dcram) ≡ 16) (g40 : length (p .cgram) ≡ 40) (a16 : length (p .adram) ≡ 16) (c : Chip) where
   -- The chip after each of the seven strobes; the first three walk over a RAM, from a chip that their command leads to.
   abbrev to-d : Chip
   to-d = put′ dcramAt 0 (put′ position 2 (put′ position 1 c))
@@ -364,7 +364,7 @@ module _ (p : CharacterPicture) (fits : Within p) (d16 : length (p .dcram) ≡ 1
   ends = every _ dcram-ends cgram-ends adram-ends dcramAt-ends cgramAt-ends adramAt-ends column-ends refl refl refl refl refl
 
 -- The painting leads every chip to the painted one.
-pub paints : (p : CharacterPicture) → Within p → length (p .dcram) ≡ 16 → length (p .cgram) ≡ 40 → length (p .adram) ≡ 16 → (c : Chip)
+pub paints : (p : CharacterPicture) → InRanges p → length (p .dcram) ≡ 16 → length (p .cgram) ≡ 40 → length (p .adram) ≡ 16 → (c : Chip)
     → Leads move (painting p) c (painted p c)
 paints p fits d16 g40 a16 c =
     surely-to (map move (painting p)) c _ _ (leads-seven p fits d16 g40 a16 c) (ends p fits d16 g40 a16 c)

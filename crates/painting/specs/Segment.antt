@@ -16,7 +16,7 @@ use Rattle.segment.specs.Value.{pointer, data-mode, steps, shows, at-position}
 use Rattle.painting.specs.declared.SegmentPicture.{SegmentPicture}
 
 -- The picture's values are in their facts' ranges. A cell is a byte, and the display a name of its own.
-pub record Within (s : Sizes) (p : SegmentPicture) : Type 0 where
+pub record InRanges (s : Sizes) (p : SegmentPicture) : Type 0 where
   pub mode-in : p .mode < range s mode
   pub dimming-in : p .dimming < range s dimming
   pub led-in : p .led < range s led

@@ -38,7 +38,7 @@ use Rattle.segment.specs.Command.{commandOf}
 use Rattle.segment.specs.Move.{sets, then, toMode, commanded, after, storedAt, stored, written, byteIn, move}
 use Rattle.segment.specs.Laws.{every, cells-apart}
 use Rattle.painting.specs.declared.SegmentPicture.{SegmentPicture}
-use Rattle.painting.specs.Segment.{Within, control, painting, painted}
+use Rattle.painting.specs.Segment.{InRanges, control, painting, painted}
 
 abbrev Chip : Type 0
 Chip = Fact → ℕ
@@ -229,7 +229,7 @@ module _ (s : Sizes) (ok : Paintable s) where
         ),
       )
 
-module _ (s : Sizes) (ok : Paintable s) (p : SegmentPicture) (fits : Within s p) (whole : length (p .cells) ≡ 36) (c : Chip) where
+module _ (s : Sizes) (ok : Paintable s) (p : SegmentPicture) (fits : InRanges s p) (whole : length (p .cells) ≡ 36) (c : Chip) where
   -- The chip after each of the five strobes.
   same-mode : Bool
   same-mode = eqb (c mode) (p .mode)
@@ -298,7 +298,7 @@ module _ (s : Sizes) (ok : Paintable s) (p : SegmentPicture) (fits : Within s p)
       (λ i. sym (w .next .rest (key i) refl)) (sym (w .next .rest switches refl)) refl refl
 
 -- The painting leads every chip to the painted one.
-pub paints : (q : Family) (p : SegmentPicture) → Within (sizes q) p → length (p .cells) ≡ 36 → (c : Chip)
+pub paints : (q : Family) (p : SegmentPicture) → InRanges (sizes q) p → length (p .cells) ≡ 36 → (c : Chip)
     → Leads (move (sizes q)) (painting (sizes q) p) c (painted (sizes q) p c)
 paints q p fits whole c =
     surely-to (map (move (sizes q)) (painting (sizes q) p)) c _ _

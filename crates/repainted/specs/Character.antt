@@ -17,7 +17,7 @@ use Rattle.knowing.specs.Know.{lifted}
 use Rattle.knowing.specs.Fill.{fill, filled}
 use Rattle.knowing.specs.Changed.{set-same}
 use Rattle.knowing.specs.Turn.{inTurn}
-use Rattle.whole.specs.Clear.{IsKnown}
+use Rattle.whole.specs.Sentence.{IsKnown}
 use Rattle.terms.specs.declared.Event.{Event}
 use Rattle.terms.specs.declared.Event.the-variants.{ByteIn}
 use Rattle.terms.specs.Event.{strobe}
@@ -31,8 +31,9 @@ use Rattle.character.specs.Move.{Forms, sets, commanded, drawn, byteIn, move}
 use Rattle.character.specs.Laws.{every}
 use Rattle.character.specs.Touch.{Defined, settled}
 use Rattle.painting.specs.declared.CharacterPicture.{CharacterPicture}
-use Rattle.painting.specs.Character.{Within, painting, painted}
+use Rattle.painting.specs.Character.{InRanges, painting, painted}
 use Rattle.painting.specs.CharacterLeads.{paints}
+use Rattle.repainted.specs.Repainted.{characterRepainted as repainted}
 use Rattle.repainted.specs.Follows.{set-settles, filled-where, Comes, comes, comes-by, known-at-end, one-end}
 use Rattle.repainted.specs.Strobe.{Bus, Always, no-more, begun, single, row}
 
@@ -98,7 +99,7 @@ lights-defined Off = tt
 lights-defined On = tt
 
 -- The seven strobes, from whatever is known.
-seven : (p : CharacterPicture) → Within p → Always bus (painting p)
+seven : (p : CharacterPicture) → InRanges p → Always bus (painting p)
 seven p fits =
     over 2 (Round dcramAt 2) 0x10 (p .dcram) tt (λ k w. w .0) (λ k. (refl, (_, refl))) (λ v k w. round-byte dcram dcramAt 2 v k (λ x i. refl) w)
     (over 3 Drawing 0x20 (p .cgram) tt (λ k w. w .0) (λ k. (refl, (_, refl), (_, refl))) column-byte
@@ -108,54 +109,16 @@ seven p fits =
     (set (0x60 + p .digits) (let e : (0x60 + p .digits) / 16 ≡ 6 = omega (arith, fits .digits-in) in rw e tt)
     (set (0x70 + lit (p .lights)) (lights-defined (p .lights)) (no-more bus)))))))
 
--- The knowledge that was k, repainted: the picture is known, and so are the addresses and the position that a painting leaves. What stands behind the
--- numbers that a RAM has is as it was.
-abbrev pub repainted : CharacterPicture → (Fact → Standing) → Fact → Standing
-repainted p k (dcram i) = whether (ltb i 16) (known (getD (p .dcram) i 0)) (k (dcram i))
-repainted p k (cgram i) = whether (ltb i 40) (known (getD (p .cgram) i 0)) (k (cgram i))
-repainted p k (adram i) = whether (ltb i 16) (known (getD (p .adram) i 0)) (k (adram i))
-repainted p k dcramAt = known 0
-repainted p k cgramAt = known 0
-repainted p k adramAt = known 0
-repainted p k column = known 0
-repainted p k port = known (p .port)
-repainted p k duty = known (p .duty)
-repainted p k digits = known (p .digits)
-repainted p k lights = known (lit (p .lights))
-repainted p k position = known (at-position Idle)
-
--- The picture is known.
-pub record Known (p : CharacterPicture) (k : Fact → Standing) : Type 0 where
-  pub dcram-known : (i : ℕ) → i < 16 → k (dcram i) ≡ known (getD (p .dcram) i 0)
-  pub cgram-known : (i : ℕ) → i < 40 → k (cgram i) ≡ known (getD (p .cgram) i 0)
-  pub adram-known : (i : ℕ) → i < 16 → k (adram i) ≡ known (getD (p .adram) i 0)
-  pub port-known : k port ≡ known (p .port)
-  pub duty-known : k duty ≡ known (p .duty)
-  pub digits-known : k digits ≡ known (p .digits)
-  pub lights-known : k lights ≡ known (lit (p .lights))
-
 -- A chip that has d wherever nothing is known is painted as the knowledge is.
 painted-filled : (p : CharacterPicture) (d : ℕ) (k : Knowledge) (f : Fact) → painted p (filled d k) f ≡ fill d (repainted p k f)
 painted-filled p d k =
     every _ (λ i. filled-where d (ltb i 16) _ _) (λ i. filled-where d (ltb i 40) _ _) (λ i. filled-where d (ltb i 16) _ _)
     refl refl refl refl refl refl refl refl refl
 
-module _ (p : CharacterPicture) (fits : Within p) (d16 : length (p .dcram) ≡ 16) (g40 : length (p .cgram) ≡ 40) (a16 : length (p .adram) ≡ 16) (k : Fact → Standing) where
+module _ (p : CharacterPicture) (fits : InRanges p) (d16 : length (p .dcram) ≡ 16) (g40 : length (p .cgram) ≡ 40) (a16 : length (p .adram) ≡ 16) (k : Fact → Standing) where
   -- All that is known after the painting, whatever was known before.
   pub character-repainted : (f : Fact) → inTurn same? range (map move (painting p)) k f ≡ repainted p k f
   character-repainted =
       known-at-end same? range (map move (painting p)) k (repainted p k) (seven p fits .from k tt)
       (λ d x h f. one-end same? range (map move (painting p)) (filled d k) x (painted p (filled d k)) h (paints p fits d16 g40 a16 (filled d k)) f
       ∙ painted-filled p d k f)
-
-  -- So the picture is known.
-  pub character-known : Known p (inTurn same? range (map move (painting p)) k)
-  character-known = record {
-    dcram-known = λ i l. character-repainted (dcram i) ∙ rw (lt-ltb i 16 l) refl;
-    cgram-known = λ i l. character-repainted (cgram i) ∙ rw (lt-ltb i 40 l) refl;
-    adram-known = λ i l. character-repainted (adram i) ∙ rw (lt-ltb i 16 l) refl;
-    port-known = character-repainted port;
-    duty-known = character-repainted duty;
-    digits-known = character-repainted digits;
-    lights-known = character-repainted lights;
-  }

@@ -22,7 +22,7 @@ use Rattle.knowing.specs.Join.{common-same}
 use Rattle.knowing.specs.Fill.{fill, filled}
 use Rattle.knowing.specs.Changed.{learn-here}
 use Rattle.knowing.specs.Turn.{inTurn}
-use Rattle.whole.specs.Clear.{IsKnown}
+use Rattle.whole.specs.Sentence.{IsKnown}
 use Rattle.terms.specs.declared.Event.{Event}
 use Rattle.terms.specs.declared.Event.the-variants.{Falls, ByteIn, Rises}
 use Rattle.terms.specs.Event.{strobe}
@@ -43,8 +43,9 @@ use Rattle.segment.specs.Command.{commandOf, displayOf, pointerOf}
 use Rattle.segment.specs.Move.{Forms, sets, then, toMode, setting, after, storedAt, stored, written, byteIn, move}
 use Rattle.segment.specs.Laws.{every}
 use Rattle.painting.specs.declared.SegmentPicture.{SegmentPicture}
-use Rattle.painting.specs.Segment.{Within, control, painting, painted}
+use Rattle.painting.specs.Segment.{InRanges, control, painting, painted}
 use Rattle.painting.specs.SegmentLeads.{paintable, paints}
+use Rattle.repainted.specs.Repainted.{segmentRepainted as repainted}
 use Rattle.repainted.specs.Follows.{Comes, comes, comes-by, set-settles, known-at-end, one-end, filled-where}
 use Rattle.repainted.specs.Strobe.{Bus, Always, no-more, at, rose, single, row}
 
@@ -104,7 +105,7 @@ module _ (s : Sizes) where
       → Into (look position (byteIn s v)) k I
   open-byte I v d k q e c = comes-by same? (range s) position (byteIn s v) k I 2 q (comes-by same? (range s) dataMode (written s v) k I d e c)
 
-  four-follow : (p : SegmentPicture) → Within s p → Always bus (four s p)
+  four-follow : (p : SegmentPicture) → InRanges s p → Always bus (four s p)
   four-follow p fits =
       single bus Set 0x40 (sets dataMode 0 (setting 0)) refl (setting-settles 0) (λ k _. (refl, refl))
       (row bus Writing 0xC0 (take (s .cells) (p .cells)) (sets address (pointer (pointerOf s 0xC0)) (then Open)) refl
@@ -167,35 +168,11 @@ module _ (s : Sizes) (m : ℕ) where
         (every (λ (f : Fact). run (gives (then Ignoring)) (put same? position 1 c) f ≡ becomes (c f))
         (λ i. refl) refl refl refl refl refl refl refl (λ i. refl) refl refl (ap becomes (sym q)) f)))
 
--- The knowledge that was k, repainted: the picture is known, and so are the settings and the position that a painting leaves. Keys and switches are
--- known as they were, and so is what stands behind the last cell.
-abbrev pub repainted : Sizes → SegmentPicture → (Fact → Standing) → Fact → Standing
-repainted s p k (cell i) = whether (ltb i (s .cells)) (known (getD (p .cells) i 0)) (k (cell i))
-repainted s p k address = known (pointer Invalid)
-repainted s p k dataMode = known (data-mode WriteLed)
-repainted s p k stepping = known (steps Increment)
-repainted s p k mode = known (p .mode)
-repainted s p k dimming = known (p .dimming)
-repainted s p k display = known (shows (p .display))
-repainted s p k led = known (p .led)
-repainted s p k (key i) = k (key i)
-repainted s p k switches = k switches
-repainted s p k readCount = known 0
-repainted s p k position = known (at-position Idle)
-
--- The picture is known.
-pub record Known (s : Sizes) (p : SegmentPicture) (k : Fact → Standing) : Type 0 where
-  pub cells-known : (i : ℕ) → i < s .cells → k (cell i) ≡ known (getD (p .cells) i 0)
-  pub mode-known : k mode ≡ known (p .mode)
-  pub dimming-known : k dimming ≡ known (p .dimming)
-  pub display-known : k display ≡ known (shows (p .display))
-  pub led-known : k led ≡ known (p .led)
-
 -- A chip that has d wherever nothing is known is painted as the knowledge is.
 painted-filled : (s : Sizes) (p : SegmentPicture) (d : ℕ) (k : Knowledge) (f : Fact) → painted s p (filled d k) f ≡ fill d (repainted s p k f)
 painted-filled s p d k = every _ (λ i. filled-where d (ltb i (s .cells)) _ _) refl refl refl refl refl refl refl (λ i. refl) refl refl refl
 
-module _ (q : Family) (p : SegmentPicture) (fits : Within (sizes q) p) (whole : length (p .cells) ≡ 36) (k : Fact → Standing) where
+module _ (q : Family) (p : SegmentPicture) (fits : InRanges (sizes q) p) (whole : length (p .cells) ≡ 36) (k : Fact → Standing) where
   reads : commandOf (sizes q) (p .mode) ≡ Mode (p .mode)
   reads = paintable q .mode-read (p .mode) (fits .mode-in)
 
@@ -231,13 +208,3 @@ module _ (q : Family) (p : SegmentPicture) (fits : Within (sizes q) p) (whole : 
   segment-repainted f =
       known-at-end same? (range (sizes q)) rest k₁ (repainted (sizes q) p k₁) (rose (bus (sizes q)) (four-follow (sizes q) p fits .from _ tt)) ends-painted f
       ∙ as-before f
-
-  -- So the picture is known.
-  pub segment-known : Known (sizes q) p (inTurn same? (range (sizes q)) (map (move (sizes q)) (painting (sizes q) p)) k)
-  segment-known = record {
-    cells-known = λ i l. segment-repainted (cell i) ∙ rw (lt-ltb i (sizes q .cells) l) refl;
-    mode-known = segment-repainted mode;
-    dimming-known = segment-repainted dimming;
-    display-known = segment-repainted display;
-    led-known = segment-repainted led;
-  }

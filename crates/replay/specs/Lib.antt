@@ -2,4 +2,4 @@ pub mod Answer
 pub mod Replay
 pub mod Laws
 pub mod Unique
-pub mod Accepted
+pub mod ByPart

@@ -43,15 +43,15 @@ pub record CharacterDone (es : List Event) (k : Panel) (l : List ℕ) (r : Repla
   pub kept : r .panel .segment ≡ k .segment
 
 -- By how the records end: P where they are done, else 5, 6, 7 or 8 at the record's first byte, counted from the front of the whole recording.
-abbrev pub Ends : Ending → ℕ → Panel → Replayed → Type 0 → Type 0
-Ends Done start k r P = P
-Ends (Stops x at) start k r P = RefusedBy (Record.number x) (start + at .0) k r
+abbrev pub ByEnding : Ending → ℕ → Panel → Replayed → Type 0 → Type 0
+ByEnding Done start k r P = P
+ByEnding (Stops x at) start k r P = RefusedBy (Record.number x) (start + at .0) k r
 
 abbrev pub SegmentWalks : Family → Panel → List ℕ → ℕ → Walk → Replayed → Type 0
-SegmentWalks p k l start w r = Ends (endOf w) start k r (SegmentDone p (events w) k l r)
+SegmentWalks p k l start w r = ByEnding (endOf w) start k r (SegmentDone p (events w) k l r)
 
 abbrev pub CharacterWalks : Panel → List ℕ → ℕ → Walk → Replayed → Type 0
-CharacterWalks k l start w r = Ends (endOf w) start k r (CharacterDone (events w) k l r)
+CharacterWalks k l start w r = ByEnding (endOf w) start k r (CharacterDone (events w) k l r)
 
 -- Tests 2, 4, 3, each exactly then and at place 0.
 abbrev pub Tested : Type 0 → Panel → List ℕ → ℕ → Replayed → Type 0 → Type 0
@@ -81,5 +81,5 @@ pub replays-refused : (q : PartRead) (at : Place) (k : Panel) (l : List ℕ) (st
 replays-refused q at k l start r p h = subst (λ (x : PartRead). Replays x k l start r) p h
 
 -- By how the records end, as code finds it.
-pub ends-by : (a b : Ending) (start : ℕ) (k : Panel) (r : Replayed) (P : Type 0) → a ≡ b → Ends a start k r P → Ends b start k r P
-ends-by a b start k r P e h = subst (λ (x : Ending). Ends x start k r P) e h
+pub ends-by : (a b : Ending) (start : ℕ) (k : Panel) (r : Replayed) (P : Type 0) → a ≡ b → ByEnding a start k r P → ByEnding b start k r P
+ends-by a b start k r P e h = subst (λ (x : Ending). ByEnding x start k r P) e h

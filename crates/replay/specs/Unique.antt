@@ -24,7 +24,7 @@ use Rattle.replay.specs.declared.answer.Answer.{Answer}
 use Rattle.replay.specs.declared.answer.Answer.the-variants.{Done, NoPart, OutOfRange, BeyondEnd, TooLong, Unlisted, Foreign, CutShort, Forbidden}
 use Rattle.replay.specs.declared.answer.Replayed.{Replayed}
 use Rattle.replay.specs.Answer.{number, place, RefusedBy}
-use Rattle.replay.specs.Replay.{SegmentDone, CharacterDone, Ends, Tested, Replays}
+use Rattle.replay.specs.Replay.{SegmentDone, CharacterDone, ByEnding, Tested, Replays}
 
 -- The answer with a number and a place, and that every answer is the one with its own.
 back : ℕ → Place → Answer
@@ -75,7 +75,7 @@ module _ (k : Panel) (l : List ℕ) (r q : Replayed) (sr : Shaped (r .panel)) (s
       same-replayed r q (h .numbered ∙ sym (g .numbered)) (h .placed ∙ sym (g .placed)) (λ i. record { segment = others i; character = halves i })
 
   -- By how the records end.
-  ended : (e : Ending) (start : ℕ) (P Q : Type 0) → (P → Q → r ≡ q) → Ends e start k r P → Ends e start k q Q → r ≡ q
+  ended : (e : Ending) (start : ℕ) (P Q : Type 0) → (P → Q → r ≡ q) → ByEnding e start k r P → ByEnding e start k q Q → r ≡ q
   ended Ended.Done start P Q same h g = same h g
   ended (Ended.Stops x at) start P Q same h g = one-refusal (Record.number x) (start + at .0) k r q h g
 

@@ -1,17 +1,19 @@
 -- Demand 3's last sentence for PT6302. The argument is that for PT6312 and PT6315: every rule looks only at settings and the position, and, with no gap
 -- and no undefined command, lets only memory become anything.
 use Prim.Native.Nat.{ℕ, zero, suc, _+_, _*_, _%_}
+use native.Mathlib.Omega.{arith}
 use mathlib.Core.Path.{_≡_, refl, ap, _∙_}
-use mathlib.Core.List.{List, map}
+use mathlib.Core.Bool.{false, true≢false}
 use lib.Dec.{eqb}
+use borrow.Author.Tests.{ne-eqb}
 use Rattle.rules.specs.Choice.{whether-all}
-use Rattle.rules.specs.Rule.{value, Rule}
+use Rattle.rules.specs.Rule.{value, Rule, gives, look, run}
 use Rattle.rules.specs.Change.{keep}
-use Rattle.knowing.specs.Standing.{Standing, known, Fits, Sound}
-use Rattle.rules.specs.Range.{Good}
+use Rattle.rules.specs.Touch.{Leaves}
+use Rattle.rules.specs.Turn.{Allows, Result}
+use Rattle.knowing.specs.Standing.{Standing, known}
 use Rattle.terms.specs.declared.Event.{Event}
 use Rattle.terms.specs.declared.Event.the-variants.{Power, Falls, ByteIn, Rises, Gap, Unfinished, Keys, Switches, ByteOut}
-use Rattle.terms.specs.Event.{Bytes}
 use Rattle.character.specs.declared.command.Command.{Command}
 use Rattle.character.specs.declared.command.Command.the-variants.{Dcram, Cgram, Adram, Port, Duty, Digits, Light, Nothing, Undefined}
 use Rattle.character.specs.declared.chip.Position.{Position}
@@ -19,14 +21,13 @@ use Rattle.character.specs.declared.chip.Position.the-variants.{Idle, First, Dc
 use Rattle.character.specs.Fact.{Fact, same?, range, dcram, cgram, adram, dcramAt, cgramAt, adramAt, column, port, duty, digits, lights, position, Sort, memory, setting, transfer, sort}
 use Rattle.character.specs.Value.{lit, at-position}
 use Rattle.character.specs.Command.{commandOf}
-use Rattle.character.specs.Move.{Forms, sets, then, commanded, drawn, byteIn, move}
+use Rattle.character.specs.Move.{Forms, sets, then, commanded, shown, drawn, marked, byteIn, move}
 use Rattle.character.specs.Touch.{Defined}
 use Rattle.character.specs.Laws.{every}
-use Rattle.character.specs.Range.{ranged, two}
-use Rattle.whole.specs.Clear.{Settled, AllOwn, Clear, keep-own, change-own}
-use Rattle.whole.specs.Usual.{PlainAt, Each, plain-less}
-use Rattle.whole.specs.Taken.{Takes, takes-throughout}
-use Rattle.whole.specs.Whole.{ExactAtEnd, exact-at-end}
+use Rattle.whole.specs.Sentence.{isGap, awaits}
+use Rattle.whole.specs.Clear.{AllOwn, Clear, keep-own, change-own}
+use Rattle.whole.specs.Usual.{UsualAt}
+use Rattle.whole.specs.Awaits.{isFirst, Sets, set-so, left-so}
 
 -- Settings and the transfer position.
 abbrev pub Asked : Sort → Type 0
@@ -39,8 +40,8 @@ abbrev pub Steers : Fact → Type 0
 Steers f = Asked (sort f)
 
 -- The event is no gap and, where the position is known to be first byte, no undefined command.
-abbrev pub Plain : Event → (Fact → Standing) → Type 0
-Plain e k = PlainAt (at-position First) (λ b. Defined (commandOf b)) e (k position)
+abbrev pub Usual : Event → (Fact → Standing) → Type 0
+Usual e k = UsualAt (at-position First) (λ b. Defined (commandOf b)) e (k position)
 
 abbrev Fine : Forms → Type 0
 Fine φ = AllOwn Steers φ
@@ -87,7 +88,7 @@ module _ (k : Fact → Standing) where
   byte-clear b (suc (suc (suc (suc (suc n))))) h = kept
 
 -- Every event but a gap and an undefined command is clear.
-pub clear : (e : Event) (k : Fact → Standing) → Plain e k → Clear Steers (move e) k
+pub clear : (e : Event) (k : Fact → Standing) → Usual e k → Clear Steers (move e) k
 clear Power k h = every _ (λ i n. n) (λ i n. n) (λ i n. n) tt tt tt tt tt tt tt tt tt
 clear Falls k h = then-fine First
 clear (ByteIn b) k h = (tt, λ q e. byte-clear k b q (λ p. h (e ∙ ap known p)))
@@ -98,14 +99,42 @@ clear (Keys k0 k1 k2 k3) k h = kept
 clear (Switches v) k h = kept
 clear ByteOut k h = kept
 
--- No gap and no undefined command, as the chip c takes the events.
-abbrev pub UsualFor : List Event → (Fact → ℕ) → Type 0
-UsualFor es c = Takes range move Plain es c
+-- Whether the position is first byte after an event, by the chip before it.
+abbrev NotFirst : ℕ → Type 0
+NotFirst q = isFirst q ≡ false
 
-module _ (es : List Event) (k : Fact → Standing) (carried : Each Bytes es) (sound : Sound range k) (settled : Settled Steers k)
-    (c : Fact → ℕ) (good : Good range c) (fits : Fits k c) (usual : UsualFor es c) where
-  -- Any fact is known at the end exactly when every fitting chip ends with the same value there, and has that value.
-  pub character-facts : (f : Fact) → ExactAtEnd same? range (map move es) k f
-  character-facts =
-      exact-at-end same? range two move Bytes ranged Steers Plain clear es k carried sound settled
-      (takes-throughout same? range two move Bytes ranged Plain (λ e l d h. plain-less (at-position First) (λ b. Defined (commandOf b)) e (l position) (d position) (h position)) es k c carried sound good fits usual)
+position-commanded : (m : Command) → Sets position NotFirst (gives (commanded m))
+position-commanded (Dcram a) = refl
+position-commanded (Cgram a) = refl
+position-commanded (Adram a) = refl
+position-commanded (Port p) = refl
+position-commanded (Duty d) = refl
+position-commanded (Digits d) = refl
+position-commanded (Light l) = refl
+position-commanded Nothing = refl
+position-commanded Undefined = refl
+
+position-drawn : (b a i : ℕ) → Leaves position (drawn b a i)
+position-drawn b a i = whether-all (Leaves position) (eqb (i % 5) 4) _ _ (λ _. refl) (λ _. refl)
+
+module _ (c y : Fact → ℕ) where
+  -- A byte, by the position: none leaves it at first byte.
+  byte-onward : (b q : ℕ) → c position ≡ q → Allows 6 (run (byteIn b q) c position) (y position) → isFirst (y position) ≡ false
+  byte-onward b zero e a = ap isFirst (a ∙ e)
+  byte-onward b (suc zero) e a = set-so range position c y NotFirst (gives (commanded (commandOf b))) (position-commanded (commandOf b)) a
+  byte-onward b (suc (suc zero)) e a = ap isFirst (left-so range position c y (look dcramAt (shown b)) (λ _. refl) a ∙ e)
+  byte-onward b (suc (suc (suc zero))) e a =
+      ap isFirst (left-so range position c y (look cgramAt (λ x. look column (drawn b x))) (position-drawn b) a ∙ e)
+  byte-onward b (suc (suc (suc (suc zero)))) e a = ap isFirst (left-so range position c y (look adramAt (marked b)) (λ _. refl) a ∙ e)
+  byte-onward b (suc (suc (suc (suc (suc n))))) e a = ap isFirst (a ∙ e) ∙ ne-eqb (suc (suc (suc (suc (suc n))))) 1 (λ z. omega arith)
+
+  pub onward : (e : Event) → isGap e ≡ false → Result range (move e) c y → isFirst (y position) ≡ awaits e (isFirst (c position))
+  onward Power g made = ap isFirst (made position)
+  onward Falls g made = ap isFirst (made position)
+  onward (ByteIn b) g made = byte-onward b (c position) refl (made position)
+  onward Rises g made = ap isFirst (made position)
+  onward Gap g made = absurd (true≢false g)
+  onward (Unfinished n) g made = ap isFirst (made position)
+  onward (Keys k0 k1 k2 k3) g made = ap isFirst (made position)
+  onward (Switches v) g made = ap isFirst (made position)
+  onward ByteOut g made = ap isFirst (made position)

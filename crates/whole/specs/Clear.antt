@@ -12,15 +12,13 @@ use Rattle.knowing.specs.Standing.{Standing, known, Agrees, Fits, Sound}
 use Rattle.knowing.specs.Know.{lifted, know}
 use Rattle.knowing.specs.Look.{look-known}
 use Rattle.knowing.specs.Fill.{fill, filled-fits, filled-good}
-
-abbrev pub IsKnown : Standing → Type 0
-IsKnown s = (v : ℕ) × (s ≡ known v)
+use Rattle.whole.specs.Sentence.{IsKnown}
 
 -- Some facts steer: they are what rules look at.
 module _ {F : Type 0} (Steers : F → Type 0) where
   -- Every fact that steers is known.
-  abbrev pub Settled : (F → Standing) → Type 0
-  Settled k = (f : F) → Steers f → IsKnown (k f)
+  abbrev pub KnowsSteering : (F → Standing) → Type 0
+  KnowsSteering k = (f : F) → Steers f → IsKnown (k f)
 
   -- The fact f becomes a value, stays what it was, or becomes anything; the last only if it does not steer.
   abbrev pub Own : F → Form F → Type 0
@@ -54,7 +52,7 @@ module _ {F : Type 0} (Steers : F → Type 0) where
       pub knows : (f : F) → know same? range rule k f ≡ lifted k (forms f)
       pub runs : (c : F → ℕ) → Fits k c → (f : F) → run rule c f ≡ outcome c (forms f)
 
-    pub resolved : (rule : Rule F F) (k : F → Standing) → Settled k → Clear rule k → Resolved rule k
+    pub resolved : (rule : Rule F F) (k : F → Standing) → KnowsSteering k → Clear rule k → Resolved rule k
     resolved (gives φ) k s h = record { forms = φ; own = h; knows = λ f. refl; runs = λ c _ f. refl }
     resolved (look g κ) k s h =
         let v = s g (h .0) .0 in
@@ -67,14 +65,14 @@ module _ {F : Type 0} (Steers : F → Type 0) where
               subst⁻¹ (λ (w : ℕ). run (κ w) c f ≡ outcome c (r .forms f)) (subst (λ (t : Standing). Agrees t (c g)) e (fits g)) (r .runs c fits f);
         }
 
-    form-known : (k : F → Standing) → Settled k → (f : F) → Steers f → (x : Form F) → Own f x → IsKnown (lifted k x)
+    form-known : (k : F → Standing) → KnowsSteering k → (f : F) → Steers f → (x : Form F) → Own f x → IsKnown (lifted k x)
     form-known k s f n (value v) o = (v, refl)
     form-known k s f n (copy g) o = s g (subst⁻¹ Steers o n)
     form-known k s f n free o = absurd (o n)
 
     -- What steers stays known.
-    pub stays-settled : (rule : Rule F F) (k : F → Standing) → Settled k → Clear rule k → Settled (know same? range rule k)
-    stays-settled rule k s h f n =
+    pub stays-steered : (rule : Rule F F) (k : F → Standing) → KnowsSteering k → Clear rule k → KnowsSteering (know same? range rule k)
+    stays-steered rule k s h f n =
         let r = resolved rule k s h in
         subst⁻¹ IsKnown (r .knows f) (form-known k s f n (r .forms f) (r .own f))
 
@@ -99,7 +97,7 @@ module _ {F : Type 0} (Steers : F → Type 0) where
       before-fits f free w o h = filled-fits range 0 some k f
 
       -- Every chip that fits what the rule makes of the knowledge is a result of one that fitted before.
-      pub comes-from : (rule : Rule F F) → Settled k → Clear rule k → (y : F → ℕ) → Good range y → Fits (know same? range rule k) y
+      pub comes-from : (rule : Rule F F) → KnowsSteering k → Clear rule k → (y : F → ℕ) → Good range y → Fits (know same? range rule k) y
           → (c : F → ℕ) × Good range c × Fits k c × Result range rule c y
       comes-from rule s h y good fits = (c, λ f. before-good f (r .forms f) (y f) (good f), fitted, made)
         where

@@ -1,6 +1,10 @@
+pub mod Turns
+pub mod Sentence
 pub mod Clear
 pub mod Usual
 pub mod Whole
 pub mod Taken
+pub mod Awaits
 pub mod Segment
 pub mod Character
+pub mod Parts

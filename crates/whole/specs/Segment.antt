@@ -2,36 +2,35 @@
 -- and gives each fact a value, or leaves it as it was, or lets it be anything. Only memory, keys and switches become anything, unless there is a gap or an
 -- undefined command; so settings and position stay known, and every event is clear.
 use Prim.Native.Nat.{ℕ, zero, suc, _+_, _%_, min}
+use native.Mathlib.Omega.{arith}
 use mathlib.Core.Path.{_≡_, refl, ap, _∙_}
-use mathlib.Core.List.{List, map}
+use mathlib.Core.Bool.{false, true≢false}
 use lib.Dec.{ltb, eqb}
+use borrow.Author.Tests.{ne-eqb}
 use Rattle.rules.specs.Choice.{whether-all, of2-all, of4-all}
-use Rattle.rules.specs.Rule.{value, copy, Rule, look}
+use Rattle.rules.specs.Rule.{value, copy, Rule, look, run}
 use Rattle.rules.specs.Change.{keep}
-use Rattle.knowing.specs.Standing.{Standing, known, Fits, Sound}
-use Rattle.rules.specs.Range.{Good}
+use Rattle.rules.specs.Touch.{Leaves}
+use Rattle.rules.specs.Turn.{Allows, Result}
+use Rattle.knowing.specs.Standing.{Standing, known}
 use Rattle.terms.specs.declared.Event.{Event}
 use Rattle.terms.specs.declared.Event.the-variants.{Power, Falls, ByteIn, Rises, Gap, Unfinished, Keys, Switches, ByteOut}
-use Rattle.terms.specs.Event.{Bytes}
-use Rattle.segment.specs.declared.chip.Family.{Family}
 use Rattle.segment.specs.declared.chip.Sizes.{Sizes}
 use Rattle.segment.specs.declared.chip.Position.{Position}
 use Rattle.segment.specs.declared.chip.Position.the-variants.{Idle, First, Open, Ignoring}
 use Rattle.segment.specs.declared.chip.Display.the-variants.{Off}
 use Rattle.segment.specs.declared.command.Command.{Command}
 use Rattle.segment.specs.declared.command.Command.the-variants.{Mode, Test, Setting, AnySetting, Control, Start}
-use Rattle.segment.specs.Family.{sizes}
 use Rattle.segment.specs.Fact.{Fact, cell, address, dataMode, stepping, mode, dimming, display, led, key, switches, readCount, position, same?, range, Sort, memory, setting, input, transfer, sort}
 use Rattle.segment.specs.Value.{pointer, data-mode, steps, shows, at-position}
 use Rattle.segment.specs.Command.{commandOf}
-use Rattle.segment.specs.Move.{Forms, sets, then, commanded, after, stored, byteIn, counted, move}
-use Rattle.segment.specs.Touch.{Defined}
+use Rattle.segment.specs.Move.{Forms, sets, then, commanded, after, stored, written, byteIn, counted, move}
+use Rattle.segment.specs.Touch.{Defined, byte-out-leaves}
 use Rattle.segment.specs.Laws.{every}
-use Rattle.segment.specs.Range.{proper, ranged, two}
-use Rattle.whole.specs.Clear.{Settled, Own, AllOwn, Clear, keep-own, change-own}
-use Rattle.whole.specs.Usual.{PlainAt, Each, plain-less}
-use Rattle.whole.specs.Taken.{Takes, takes-throughout}
-use Rattle.whole.specs.Whole.{ExactAtEnd, exact-at-end}
+use Rattle.whole.specs.Sentence.{isGap, awaits}
+use Rattle.whole.specs.Clear.{Own, AllOwn, Clear, keep-own, change-own}
+use Rattle.whole.specs.Usual.{UsualAt}
+use Rattle.whole.specs.Awaits.{isFirst, Sets, set-so, left-so}
 
 -- Settings and the transfer position.
 abbrev pub Asked : Sort → Type 0
@@ -45,8 +44,8 @@ abbrev pub Steers : Fact → Type 0
 Steers f = Asked (sort f)
 
 -- The event is no gap and, where the position is known to be first byte, no undefined command.
-abbrev pub Plain : Sizes → Event → (Fact → Standing) → Type 0
-Plain s e k = PlainAt (at-position First) (λ b. Defined (commandOf s b)) e (k position)
+abbrev pub Usual : Sizes → Event → (Fact → Standing) → Type 0
+Usual s e k = UsualAt (at-position First) (λ b. Defined (commandOf s b)) e (k position)
 
 abbrev Fine : Forms → Type 0
 Fine φ = AllOwn Steers φ
@@ -97,7 +96,7 @@ module _ (s : Sizes) (k : Fact → Standing) where
   counted-clear = (tt, λ n _. sets-fine readCount (min (n + 1) 4) keep kept)
 
 -- Every event but a gap and an undefined command is clear.
-pub clear : (s : Sizes) (e : Event) (k : Fact → Standing) → Plain s e k → Clear Steers (move s e) k
+pub clear : (s : Sizes) (e : Event) (k : Fact → Standing) → Usual s e k → Clear Steers (move s e) k
 clear s Power k h = every _ (λ i n. n) tt tt tt tt tt tt tt (λ i n. n) (λ n. n) tt tt
 clear s Falls k h = then-fine First
 clear s (ByteIn b) k h = (tt, λ q e. byte-clear s k b q (λ p. h (e ∙ ap known p)))
@@ -117,16 +116,47 @@ clear s ByteOut k h = (
       kept q,
 )
 
--- No gap and no undefined command, as the chip c takes the events.
-abbrev pub UsualFor : Sizes → List Event → (Fact → ℕ) → Type 0
-UsualFor s es c = Takes (range s) (move s) (Plain s) es c
+-- Whether the position is first byte after an event, by the chip before it.
+position-stored : (s : Sizes) (b a : ℕ) → Leaves position (stored s b a)
+position-stored s b zero = refl
+position-stored s b (suc i) = whether-all (Leaves position) (ltb i (s .cells)) _ _ (λ _ n. of2-all (Leaves position) _ _ refl refl n) (λ _. refl)
 
-module _ (p : Family) (es : List Event) (k : Fact → Standing) (carried : Each Bytes es) (sound : Sound (range (sizes p)) k)
-    (settled : Settled Steers k) (c : Fact → ℕ) (good : Good (range (sizes p)) c) (fits : Fits k c) (usual : UsualFor (sizes p) es c) where
-  -- Any fact is known at the end exactly when every fitting chip ends with the same value there, and has that value.
-  pub segment-facts : (f : Fact) → ExactAtEnd same? (range (sizes p)) (map (move (sizes p)) es) k f
-  segment-facts =
-      exact-at-end same? (range (sizes p)) (two p) (move (sizes p)) Bytes (ranged (sizes p) (proper p)) Steers (Plain (sizes p)) (clear (sizes p)) es k
-      carried sound settled
-      (takes-throughout same? (range (sizes p)) (two p) (move (sizes p)) Bytes (ranged (sizes p) (proper p)) (Plain (sizes p))
-      (λ e l d h. plain-less (at-position First) (λ b. Defined (commandOf (sizes p) b)) e (l position) (d position) (h position)) es k c carried sound good fits usual)
+position-written : (s : Sizes) (b d : ℕ) → Leaves position (written s b d)
+position-written s b d = of4-all (Leaves position) _ _ _ _ (position-stored s b) refl refl refl d
+
+abbrev NotFirst : ℕ → Type 0
+NotFirst q = isFirst q ≡ false
+
+position-commanded : (m : Command) → Sets position NotFirst (commanded m)
+position-commanded (Mode m) = λ old. whether-all (Sets position NotFirst) (eqb old m) _ _ (λ _. refl) (λ _. refl)
+position-commanded Test = refl
+position-commanded (Setting d i) = refl
+position-commanded (AnySetting i) = refl
+position-commanded (Control d o) = refl
+position-commanded (Start a) = refl
+
+not-count : ¬ (position ≡ readCount)
+not-count e =
+    let z : _≡_ {A = ℕ} 0 1 = cc in
+    omega arith
+
+module _ (s : Sizes) (c y : Fact → ℕ) where
+  -- A byte, by the position: none leaves it at first byte.
+  byte-onward : (b q : ℕ) → c position ≡ q → Allows 4 (run (byteIn s b q) c position) (y position) → isFirst (y position) ≡ false
+  byte-onward b zero e a = ap isFirst (a ∙ e)
+  byte-onward b (suc zero) e a = set-so (range s) position c y NotFirst (commanded (commandOf s b)) (position-commanded (commandOf s b)) a
+  byte-onward b (suc (suc zero)) e a =
+      ap isFirst (left-so (range s) position c y (look dataMode (written s b)) (position-written s b) a ∙ e)
+  byte-onward b (suc (suc (suc n))) e a = ap isFirst (a ∙ e) ∙ ne-eqb (suc (suc (suc n))) 1 (λ z. omega arith)
+
+  pub onward : (e : Event) → isGap e ≡ false → Result (range s) (move s e) c y → isFirst (y position) ≡ awaits e (isFirst (c position))
+  onward Power g made = ap isFirst (made position)
+  onward Falls g made = ap isFirst (made position)
+  onward (ByteIn b) g made = byte-onward b (c position) refl (made position)
+  onward Rises g made = ap isFirst (made position)
+  onward Gap g made = absurd (true≢false g)
+  onward (Unfinished n) g made = ap isFirst (made position)
+  onward (Keys k0 k1 k2 k3) g made = ap isFirst (made position)
+  onward (Switches v) g made =
+      ap isFirst (left-so (range s) position c y (move s (Switches v)) (whether-all (λ (φ : Forms). φ position ≡ copy position) (s .switched) _ _ (λ _. refl) (λ _. refl)) (made position))
+  onward ByteOut g made = ap isFirst (left-so (range s) position c y (move s ByteOut) (byte-out-leaves s position not-count) (made position))

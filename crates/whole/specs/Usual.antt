@@ -11,16 +11,16 @@ use Rattle.terms.specs.declared.Event.the-variants.{Power, Falls, ByteIn, Rises
 
 -- The event is no gap and no undefined command, where s is what is known of the position, `first` the position of a first byte, and `Defined` says
 -- which bytes are defined commands.
-abbrev pub PlainAt : ℕ → (ℕ → Type 0) → Event → Standing → Type 0
-PlainAt first Defined Power s = Unit
-PlainAt first Defined Falls s = Unit
-PlainAt first Defined (ByteIn b) s = s ≡ known first → Defined b
-PlainAt first Defined Rises s = Unit
-PlainAt first Defined Gap s = ⊥
-PlainAt first Defined (Unfinished n) s = Unit
-PlainAt first Defined (Keys k0 k1 k2 k3) s = Unit
-PlainAt first Defined (Switches v) s = Unit
-PlainAt first Defined ByteOut s = Unit
+abbrev pub UsualAt : ℕ → (ℕ → Type 0) → Event → Standing → Type 0
+UsualAt first Defined Power s = Unit
+UsualAt first Defined Falls s = Unit
+UsualAt first Defined (ByteIn b) s = s ≡ known first → Defined b
+UsualAt first Defined Rises s = Unit
+UsualAt first Defined Gap s = ⊥
+UsualAt first Defined (Unfinished n) s = Unit
+UsualAt first Defined (Keys k0 k1 k2 k3) s = Unit
+UsualAt first Defined (Switches v) s = Unit
+UsualAt first Defined ByteOut s = Unit
 
 -- P holds of each event.
 abbrev pub Each : {E : Type 0} → (E → Type 0) → List E → Type 0
@@ -32,14 +32,14 @@ abbrev pub Throughout : {E F : Type 0} → Discrete F → (F → ℕ) → (E →
 Throughout same? range move P [] k = Unit
 Throughout same? range move P (e ∷ es) k = P e k × Throughout same? range move P es (know same? range (move e) k)
 
--- What is plain where the position is w is plain where no more is known of it.
-pub plain-less : (first : ℕ) (Defined : ℕ → Type 0) (e : Event) (s : Standing) (w : ℕ) → Agrees s w → PlainAt first Defined e (known w) → PlainAt first Defined e s
-plain-less first Defined Power s w a h = tt
-plain-less first Defined Falls s w a h = tt
-plain-less first Defined (ByteIn b) s w a h = λ e. h (ap known (subst (λ (t : Standing). Agrees t w) e a))
-plain-less first Defined Rises s w a h = tt
-plain-less first Defined Gap s w a h = h
-plain-less first Defined (Unfinished n) s w a h = tt
-plain-less first Defined (Keys k0 k1 k2 k3) s w a h = tt
-plain-less first Defined (Switches v) s w a h = tt
-plain-less first Defined ByteOut s w a h = tt
+-- What is usual where the position is w is usual where no more is known of it.
+pub usual-less : (first : ℕ) (Defined : ℕ → Type 0) (e : Event) (s : Standing) (w : ℕ) → Agrees s w → UsualAt first Defined e (known w) → UsualAt first Defined e s
+usual-less first Defined Power s w a h = tt
+usual-less first Defined Falls s w a h = tt
+usual-less first Defined (ByteIn b) s w a h = λ e. h (ap known (subst (λ (t : Standing). Agrees t w) e a))
+usual-less first Defined Rises s w a h = tt
+usual-less first Defined Gap s w a h = h
+usual-less first Defined (Unfinished n) s w a h = tt
+usual-less first Defined (Keys k0 k1 k2 k3) s w a h = tt
+usual-less first Defined (Switches v) s w a h = tt
+usual-less first Defined ByteOut s w a h = tt

@@ -1,0 +1,87 @@
+-- Demand 3 over a recording, as a caller has it: a part byte that names a part, and what `replay` promises of its answer. The argument: where the replay
+-- answers number 0 its promise is the events in turn (`replay/ByPart`), and what holds of events in turn is shown in `whole` over any facts.
+use Prim.Native.Nat.{ℕ}
+use mathlib.Core.Path.{_≡_, sym, _∙_, fun-ext, subst, subst⁻¹}
+use mathlib.Core.Bool.{false}
+use mathlib.Core.List.{List, map}
+use lib.ListN.{length}
+use Rattle.rules.specs.Range.{Good}
+use Rattle.rules.specs.Turn.{Ends}
+use Rattle.knowing.specs.Standing.{Standing, known, Agrees, Fits, Within, Sound}
+use Rattle.knowing.specs.Turn.{inTurn}
+use Rattle.terms.specs.Event.{Bytes}
+use Rattle.terms.specs.Part.{partOf}
+use Rattle.terms.specs.declared.Part.{Part}
+use Rattle.terms.specs.declared.PartRead.the-variants.{Is}
+use Rattle.parts.specs.Facts.{Fact, same?, range, move}
+use Rattle.parts.specs.Laws.{two, ranged}
+use Rattle.panel.specs.declared.knowledge.Panel.{Panel}
+use Rattle.panel.specs.View.{knownOf}
+use Rattle.replay.specs.declared.answer.Replayed.{Replayed}
+use Rattle.replay.specs.Answer.{number, place}
+use Rattle.replay.specs.Replay.{Replays}
+use Rattle.replay.specs.ByPart.{PartDone, Acceptable, replays-by, accepted, accepts}
+use Rattle.whole.specs.Turns.{Chain, KnowsAtLeast}
+use Rattle.whole.specs.Sentence.{position, StartKnows, hasGap, DefinedOn, NoUndefined, startsFirst, IsMemory, AllEnd}
+use Rattle.whole.specs.Whole.{turn-chain, chain-one, ends-fit, turn-more, turn-sound}
+use Rattle.whole.specs.Parts.{facts-exact}
+use Rattle.demand.specs.Recording.{AllBytes, eventsFrom, movesFrom}
+use Rattle.demand.specs.Bytes.{carry}
+
+module _ (b : ℕ) (p : Part) (named : partOf b ≡ Is p) (k : Panel) (l : List ℕ) (start : ℕ) (r : Replayed)
+    (met : Replays (partOf b) k l start r) (zero : number (r .answer) ≡ 0) (bytes : AllBytes l) where
+  acceptable : Acceptable p k l start
+  acceptable = accepted p k l start r (replays-by k l start r (partOf b) p named met) zero .0
+
+  done : PartDone p (eventsFrom p start l) k l r
+  done = accepted p k l start r (replays-by k l start r (partOf b) p named met) zero .1
+
+  -- "A recording is its events in turn": the answer is the end of a chain of knowledges, one behind each event, each exact from the one before.
+  pub recording-in-turn : Chain (range p) (movesFrom p start l) (knownOf p k) (knownOf p (r .panel))
+  recording-in-turn =
+      subst (Chain (range p) (movesFrom p start l) (knownOf p k)) (sym (fun-ext (done .known)))
+      (turn-chain (same? p) (range p) (two p) (move p) Bytes (ranged p) (eventsFrom p start l) (knownOf p k) (carry p start l bytes) (acceptable .in-range))
+
+  -- And no such chain ends in another knowledge.
+  pub recording-one-end : (q : Fact p → Standing) → Chain (range p) (movesFrom p start l) (knownOf p k) q → (f : Fact p) → q f ≡ knownOf p (r .panel) f
+  recording-one-end q h = chain-one (range p) (movesFrom p start l) (knownOf p k) q (knownOf p (r .panel)) h recording-in-turn
+
+  -- "A chip that fitted the start fits the end", moved along any way that the rules allow.
+  pub recording-fits : (c x : Fact p → ℕ) → Good (range p) c → Fits (knownOf p k) c → Ends (range p) (movesFrom p start l) c x → Fits (knownOf p (r .panel)) x
+  recording-fits c x good fits ends f =
+      subst⁻¹ (λ (t : Standing). Agrees t (x f)) (done .known f)
+      (ends-fit (same? p) (range p) (two p) (move p) Bytes (ranged p) (eventsFrom p start l) (knownOf p k) (carry p start l bytes) (acceptable .in-range) c x good fits ends f)
+
+  -- The knowledge at the end is in range again, so that a further recording is not refused by 2.
+  pub recording-in-range : Sound (range p) (knownOf p (r .panel))
+  recording-in-range f =
+      subst⁻¹ (λ (t : Standing). Within (range p f) t) (done .known f)
+      (turn-sound (same? p) (range p) (two p) (move p) Bytes (ranged p) (eventsFrom p start l) (knownOf p k) (carry p start l bytes) (acceptable .in-range) f)
+
+  -- "A start that knows more, and contradicts nothing, ends knowing at least as much, with the same values": if it is in range, its replay is accepted, too.
+  pub recording-knows-more : (more : Panel) (q : Replayed) → Replays (partOf b) more l start q → Sound (range p) (knownOf p more)
+      → KnowsAtLeast (knownOf p k) (knownOf p more)
+      → (number (q .answer) ≡ 0) × (place (q .answer) ≡ length l) × KnowsAtLeast (knownOf p (r .panel)) (knownOf p (q .panel))
+  recording-knows-more more q again sound h = (d .numbered, d .placed, ends)
+    where
+      d : PartDone p (eventsFrom p start l) more l q
+      d =
+          accepts p more l start q (replays-by more l start q (partOf b) p named again)
+          (record { in-range = sound; short = acceptable .short; within = acceptable .within; ends = acceptable .ends })
+
+      ends : KnowsAtLeast (knownOf p (r .panel)) (knownOf p (q .panel))
+      ends f v e =
+          d .known f
+          ∙ turn-more (same? p) (range p) (two p) (move p) Bytes (ranged p) (eventsFrom p start l) (knownOf p k) (knownOf p more)
+          (carry p start l bytes) (acceptable .in-range) sound h f v (sym (done .known f) ∙ e)
+
+  -- "Where the start knows all settings and the transfer position, and the recording has no gap and no undefined command, a memory cell is known at the
+  -- end exactly when every fitting chip ends with the same content there."
+  pub recording-cells-exact : StartKnows p (knownOf p k) → hasGap (eventsFrom p start l) ≡ false
+      → NoUndefined (DefinedOn p) (startsFirst p (knownOf p k (position p))) (eventsFrom p start l)
+      → (f : Fact p) → IsMemory p f → (v : ℕ)
+      → (knownOf p (r .panel) f ≡ known v → AllEnd (range p) (movesFrom p start l) (knownOf p k) f v)
+      × (AllEnd (range p) (movesFrom p start l) (knownOf p k) f v → knownOf p (r .panel) f ≡ known v)
+  recording-cells-exact knows gapless defined f _ v =
+      let x = facts-exact p (eventsFrom p start l) (knownOf p k) (carry p start l bytes) (acceptable .in-range) knows gapless defined f v in
+      (λ e. x .0 (sym (done .known f) ∙ e), λ all. done .known f ∙ x .1 all)

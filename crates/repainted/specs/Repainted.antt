@@ -1,0 +1,61 @@
+-- What is known after a painting, by what was known before.
+use Prim.Native.Nat.{ℕ}
+use lib.ListN.{getD}
+use lib.Dec.{ltb}
+use Rattle.rules.specs.Choice.{whether}
+use Rattle.knowing.specs.Standing.{Standing, known}
+use Rattle.terms.specs.declared.Part.{Part}
+use Rattle.terms.specs.declared.Part.the-variants.{Pt6302, Pt6312, Pt6315}
+use Rattle.segment.specs.declared.chip.Family.the-variants as OfFamily
+use Rattle.segment.specs.declared.chip.Sizes.{Sizes}
+use Rattle.segment.specs.declared.chip.Pointer.the-variants.{Invalid}
+use Rattle.segment.specs.declared.chip.Data.the-variants.{WriteLed}
+use Rattle.segment.specs.declared.chip.Stepping.the-variants.{Increment}
+use Rattle.segment.specs.declared.chip.Position.the-variants as SegmentPosition
+use Rattle.segment.specs.Family.{sizes}
+use Rattle.segment.specs.Fact as Segment
+use Rattle.segment.specs.Value.{pointer, data-mode, steps, shows, at-position}
+use Rattle.character.specs.declared.chip.Position.the-variants as CharacterPosition
+use Rattle.character.specs.Fact as Character
+use Rattle.character.specs.Value as CharacterValue
+use Rattle.parts.specs.Facts.{Fact}
+use Rattle.painting.specs.declared.Picture.{Picture}
+use Rattle.painting.specs.declared.SegmentPicture.{SegmentPicture}
+use Rattle.painting.specs.declared.CharacterPicture.{CharacterPicture}
+
+-- The picture is known, and so are the settings and the position that a painting leaves. Keys and switches are known as they were, and so is what
+-- stands behind the last cell.
+abbrev pub segmentRepainted : Sizes → SegmentPicture → (Segment.Fact → Standing) → Segment.Fact → Standing
+segmentRepainted s p k (Segment.cell i) = whether (ltb i (s .cells)) (known (getD (p .cells) i 0)) (k (Segment.cell i))
+segmentRepainted s p k Segment.address = known (pointer Invalid)
+segmentRepainted s p k Segment.dataMode = known (data-mode WriteLed)
+segmentRepainted s p k Segment.stepping = known (steps Increment)
+segmentRepainted s p k Segment.mode = known (p .mode)
+segmentRepainted s p k Segment.dimming = known (p .dimming)
+segmentRepainted s p k Segment.display = known (shows (p .display))
+segmentRepainted s p k Segment.led = known (p .led)
+segmentRepainted s p k (Segment.key i) = k (Segment.key i)
+segmentRepainted s p k Segment.switches = k Segment.switches
+segmentRepainted s p k Segment.readCount = known 0
+segmentRepainted s p k Segment.position = known (at-position SegmentPosition.Idle)
+
+-- The picture is known, and so are the addresses and the position that a painting leaves. What stands behind the numbers that a RAM has is as it was.
+abbrev pub characterRepainted : CharacterPicture → (Character.Fact → Standing) → Character.Fact → Standing
+characterRepainted p k (Character.dcram i) = whether (ltb i 16) (known (getD (p .dcram) i 0)) (k (Character.dcram i))
+characterRepainted p k (Character.cgram i) = whether (ltb i 40) (known (getD (p .cgram) i 0)) (k (Character.cgram i))
+characterRepainted p k (Character.adram i) = whether (ltb i 16) (known (getD (p .adram) i 0)) (k (Character.adram i))
+characterRepainted p k Character.dcramAt = known 0
+characterRepainted p k Character.cgramAt = known 0
+characterRepainted p k Character.adramAt = known 0
+characterRepainted p k Character.column = known 0
+characterRepainted p k Character.port = known (p .port)
+characterRepainted p k Character.duty = known (p .duty)
+characterRepainted p k Character.digits = known (p .digits)
+characterRepainted p k Character.lights = known (CharacterValue.lit (p .lights))
+characterRepainted p k Character.position = known (CharacterValue.at-position CharacterPosition.Idle)
+
+-- The same by the part.
+abbrev pub repaintedBy : (p : Part) → Picture → (Fact p → Standing) → Fact p → Standing
+repaintedBy Pt6302 pic = characterRepainted (pic .character)
+repaintedBy Pt6312 pic = segmentRepainted (sizes OfFamily.Pt6312) (pic .segment)
+repaintedBy Pt6315 pic = segmentRepainted (sizes OfFamily.Pt6315) (pic .segment)
