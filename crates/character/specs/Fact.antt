@@ -27,7 +27,8 @@ range digits = 8
 range lights = 3
 range position = 6
 
--- What a fact is of. Settings, in demand 3, are all facts but memory and position; this part has no keys and no switches.
+-- What a fact is of. Settings, in demand 3, are all facts but memory and position; this part has no keys and no
+-- switches.
 pub data Sort : Type 0 where
   memory setting transfer : Sort
 

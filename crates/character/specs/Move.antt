@@ -48,7 +48,8 @@ powered position = value (at-position Idle)
 abbrev pub undefined : Forms
 undefined f = bySort free free (value (at-position Ignoring)) (sort f)
 
--- 1, 2 and 3 set that RAM's address and position, 2 the column too; 4 to 7 store their setting, then ignoring (H); 80H and 88H nothing, then ignoring.
+-- 1, 2 and 3 set that RAM's address and position, 2 the column too; 4 to 7 store their setting, then ignoring (H);
+-- 80H and 88H nothing, then ignoring.
 abbrev pub commanded : Command → Forms
 commanded (Dcram a) = sets dcramAt (a .0) (then inDcram)
 commanded (Cgram a) = sets cgramAt (a .0) (sets column 0 (then inCgram))
@@ -68,8 +69,8 @@ shown b a = gives (sets dcramAt ((a % 16 + 1) % 16) (sets (dcram (a % 16)) b kee
 abbrev pub marked : ℕ → ℕ → Rule Fact Fact
 marked b a = gives (sets adramAt ((a % 16 + 1) % 16) (sets (adram (a % 16)) (b % 4) keep))
 
--- A data byte to CGRAM, by the address and the column: bit 7 is dropped, and it is stored as it comes. After five columns the next
--- character follows, modulo 8 (H).
+-- A data byte to CGRAM, by the address and the column: bit 7 is dropped, and it is stored as it comes. After five
+-- columns the next character follows, modulo 8 (H).
 abbrev pub drawn : ℕ → ℕ → ℕ → Rule Fact Fact
 drawn b a k =
     whether (eqb (k % 5) 4)

@@ -17,7 +17,7 @@ use Rattle.character.specs.declared.chip.Position.{Position}
 use Rattle.character.specs.declared.chip.Position.the-variants.{Dcram as inDcram, Cgram as inCgram, Adram as inAdram, Ignoring}
 use Rattle.character.specs.Fact.{Fact, same?, dcram, cgram, adram, dcramAt, cgramAt, adramAt, column, port, duty, digits, lights, position}
 use Rattle.character.specs.Value.{lit, at-position}
-use Rattle.character.specs.Command.{commandOf}
+use Rattle.character.specs.Command.{commandOf, Defined}
 use Rattle.character.specs.Move.{Forms, sets, then, commanded, shown, drawn, marked, byteIn, move}
 
 -- The strobe and unfinished bits leave every fact alone but the position.
@@ -28,18 +28,6 @@ strobe-leaves n f h =
 -- Keys, switches and bytes out are no events of this part, and leave every fact alone.
 pub foreign-leaves : (k0 k1 k2 k3 v : ℕ) (f : Fact) → Leaves f (move (Keys k0 k1 k2 k3)) × Leaves f (move (Switches v)) × Leaves f (move ByteOut)
 foreign-leaves k0 k1 k2 k3 v f = (refl, refl, refl)
-
--- An undefined command leaves facts as anything.
-abbrev pub Defined : Command → Type 0
-Defined (Dcram a) = Unit
-Defined (Cgram a) = Unit
-Defined (Adram a) = Unit
-Defined (Port p) = Unit
-Defined (Duty d) = Unit
-Defined (Digits d) = Unit
-Defined (Light l) = Unit
-Defined Nothing = Unit
-Defined Undefined = ⊥
 
 -- Power and a gap leave facts as anything, and so may a byte that would be an undefined command.
 abbrev pub Settled : Event → Type 0

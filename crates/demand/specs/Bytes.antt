@@ -1,4 +1,5 @@
--- The events of a recording carry bytes. The argument: an event carries what stands in its record, and a recording is bytes.
+-- The events of a recording carry bytes. The argument: an event carries what stands in its record, and a recording is
+-- bytes.
 use Prim.Native.Nat.{ℕ, zero, suc, _+_, _<_}
 use mathlib.Core.Path.{subst, subst⁻¹}
 use mathlib.Core.List.{List, [], _∷_}

@@ -1,5 +1,6 @@
--- Demand 3 over a recording, as a caller has it: a part byte that names a part, and what `replay` promises of its answer. The argument: where the replay
--- answers number 0 its promise is the events in turn (`replay/ByPart`), and what holds of events in turn is shown in `whole` over any facts.
+-- Demand 3 over a recording, as a caller has it: a part byte that names a part, and what `replay` promises of its
+-- answer. The argument: where the replay answers number 0 its promise is the events in turn (`replay/ByPart`), and
+-- what holds of events in turn is shown in `whole` over any facts.
 use Prim.Native.Nat.{ℕ}
 use mathlib.Core.Path.{_≡_, sym, _∙_, fun-ext, subst, subst⁻¹}
 use mathlib.Core.Bool.{false}
@@ -36,18 +37,22 @@ module _ (b : ℕ) (p : Part) (named : partOf b ≡ Is p) (k : Panel) (l : List 
   done : PartDone p (eventsFrom p start l) k l r
   done = accepted p k l start r (replays-by k l start r (partOf b) p named met) zero .1
 
-  -- "A recording is its events in turn": the answer is the end of a chain of knowledges, one behind each event, each exact from the one before.
+  -- "A recording is its events in turn": the answer is the end of a chain of knowledges, one behind each event, each
+  -- exact from the one before.
   pub recording-in-turn : Chain (range p) (movesFrom p start l) (knownOf p k) (knownOf p (r .panel))
   recording-in-turn =
       subst (Chain (range p) (movesFrom p start l) (knownOf p k)) (sym (fun-ext (done .known)))
       (turn-chain (same? p) (range p) (two p) (move p) Bytes (ranged p) (eventsFrom p start l) (knownOf p k) (carry p start l bytes) (acceptable .in-range))
 
   -- And no such chain ends in another knowledge.
-  pub recording-one-end : (q : Fact p → Standing) → Chain (range p) (movesFrom p start l) (knownOf p k) q → (f : Fact p) → q f ≡ knownOf p (r .panel) f
-  recording-one-end q h = chain-one (range p) (movesFrom p start l) (knownOf p k) q (knownOf p (r .panel)) h recording-in-turn
+  pub recording-one-end : (q : Fact p → Standing) → Chain (range p) (movesFrom p start l) (knownOf p k) q
+      → (f : Fact p) → q f ≡ knownOf p (r .panel) f
+  recording-one-end q h =
+      chain-one (range p) (movesFrom p start l) (knownOf p k) q (knownOf p (r .panel)) h recording-in-turn
 
   -- "A chip that fitted the start fits the end", moved along any way that the rules allow.
-  pub recording-fits : (c x : Fact p → ℕ) → Good (range p) c → Fits (knownOf p k) c → Ends (range p) (movesFrom p start l) c x → Fits (knownOf p (r .panel)) x
+  pub recording-fits : (c x : Fact p → ℕ) → Good (range p) c → Fits (knownOf p k) c
+      → Ends (range p) (movesFrom p start l) c x → Fits (knownOf p (r .panel)) x
   recording-fits c x good fits ends f =
       subst⁻¹ (λ (t : Standing). Agrees t (x f)) (done .known f)
       (ends-fit (same? p) (range p) (two p) (move p) Bytes (ranged p) (eventsFrom p start l) (knownOf p k) (carry p start l bytes) (acceptable .in-range) c x good fits ends f)
@@ -58,10 +63,12 @@ module _ (b : ℕ) (p : Part) (named : partOf b ≡ Is p) (k : Panel) (l : List 
       subst⁻¹ (λ (t : Standing). Within (range p f) t) (done .known f)
       (turn-sound (same? p) (range p) (two p) (move p) Bytes (ranged p) (eventsFrom p start l) (knownOf p k) (carry p start l bytes) (acceptable .in-range) f)
 
-  -- "A start that knows more, and contradicts nothing, ends knowing at least as much, with the same values": if it is in range, its replay is accepted, too.
-  pub recording-knows-more : (more : Panel) (q : Replayed) → Replays (partOf b) more l start q → Sound (range p) (knownOf p more)
-      → KnowsAtLeast (knownOf p k) (knownOf p more)
-      → (number (q .answer) ≡ 0) × (place (q .answer) ≡ length l) × KnowsAtLeast (knownOf p (r .panel)) (knownOf p (q .panel))
+  -- "A start that knows more, and contradicts nothing, ends knowing at least as much, with the same values": if it is
+  -- in range, its replay is accepted, too.
+  pub recording-knows-more : (more : Panel) (q : Replayed) → Replays (partOf b) more l start q
+      → Sound (range p) (knownOf p more) → KnowsAtLeast (knownOf p k) (knownOf p more)
+      → (number (q .answer) ≡ 0) × (place (q .answer) ≡ length l)
+      × KnowsAtLeast (knownOf p (r .panel)) (knownOf p (q .panel))
   recording-knows-more more q again sound h = (d .numbered, d .placed, ends)
     where
       d : PartDone p (eventsFrom p start l) more l q
@@ -75,8 +82,8 @@ module _ (b : ℕ) (p : Part) (named : partOf b ≡ Is p) (k : Panel) (l : List 
           ∙ turn-more (same? p) (range p) (two p) (move p) Bytes (ranged p) (eventsFrom p start l) (knownOf p k) (knownOf p more)
           (carry p start l bytes) (acceptable .in-range) sound h f v (sym (done .known f) ∙ e)
 
-  -- "Where the start knows all settings and the transfer position, and the recording has no gap and no undefined command, a memory cell is known at the
-  -- end exactly when every fitting chip ends with the same content there."
+  -- "Where the start knows all settings and the transfer position, and the recording has no gap and no undefined
+  -- command, a memory cell is known at the end exactly when every fitting chip ends with the same content there."
   pub recording-cells-exact : StartKnows p (knownOf p k) → hasGap (eventsFrom p start l) ≡ false
       → NoUndefined (DefinedOn p) (startsFirst p (knownOf p k (position p))) (eventsFrom p start l)
       → (f : Fact p) → IsMemory p f → (v : ℕ)

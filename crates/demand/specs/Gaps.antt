@@ -1,5 +1,6 @@
--- What stands behind the last gap of a recording. The argument, by induction over the records: where a later record is a gap, it is the later records'
--- last; else a gap here is the last, and what follows its one byte are the later records.
+-- What stands behind the last gap of a recording. The argument, by induction over the records: where a later record
+-- is a gap, it is the later records' last; else a gap here is the last, and what follows its one byte are the later
+-- records.
 use Prim.Native.Nat.{ℕ, zero, suc, _+_, _≤_}
 use native.Mathlib.Omega.{arith}
 use mathlib.Core.Path.{_≡_, refl, sym, ap, _∙_, subst}
@@ -93,7 +94,8 @@ anew n p at l h q =
     let same : walk n p 0 l ≡ walked p l = enough n (length l) p 0 l h (omega arith) in
     (f .same ∙ ap events same, sym (ap endOf same) ∙ unshifted at (endOf (walk n p 0 l)) (sym (f .ends) ∙ q))
 
--- Where there is a gap: the events before the last, the gap, and those of the bytes behind it, whose records are done as well.
+-- Where there is a gap: the events before the last, the gap, and those of the bytes behind it, whose records are done
+-- as well.
 pub record Behind (p : Part) (at : ℕ) (l : List ℕ) (w : Walk) (place : ℕ) : Type 0 where
   pub skipped : ℕ
   pub inside : skipped ≤ length l

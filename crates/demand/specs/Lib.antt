@@ -5,3 +5,4 @@ pub mod Append
 pub mod Gaps
 pub mod Tail
 pub mod Painting
+pub mod Met

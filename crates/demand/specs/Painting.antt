@@ -1,6 +1,7 @@
--- The painted bytes, from `paint` to a chip and from `paint` to `replay`. The argument: what the painter wrote in front is the recording of the painting's
--- events (`painter/ByPart`), which is read back as these events (`repainted/ByPart`); they lead every chip to the painted one (`painting/Demand`), and every
--- knowledge to the repainted one.
+-- The painted bytes, from `paint` to a chip and from `paint` to `replay`. The argument: what the painter wrote in
+-- front is the recording of the painting's events (`painter/ByPart`), which is read back as these events
+-- (`repainted/ByPart`); they lead every chip to the painted one (`painting/Demand`), and every knowledge to the
+-- repainted one.
 use Prim.Native.Nat.{ℕ, _≤_}
 use native.Mathlib.Omega.{arith}
 use mathlib.Core.Path.{_≡_, sym, ap, _∙_, subst, subst⁻¹}
@@ -39,9 +40,11 @@ size-allowed Pt6302 = omega arith
 size-allowed Pt6312 = omega arith
 size-allowed Pt6315 = omega arith
 
--- A part byte that names a part, a picture within its ranges, and room enough; the answer r and the output afterwards are what `paint` promises.
-module _ (b : ℕ) (p : Part) (named : partOf b ≡ Is p) (pic : Picture) (shaped : Shaped pic) (fits : PictureInRange p pic) (out : List ℕ)
-    (enough : sizeFor p ≤ length out) (r : Painted) (after : List ℕ) (answers : r ≡ Paint.answer b pic (length out)) (wrote : after ≡ Paint.output b pic out) where
+-- A part byte that names a part, a picture within its ranges, and room enough; the answer r and the output afterwards
+-- are what `paint` promises.
+module _ (b : ℕ) (p : Part) (named : partOf b ≡ Is p) (pic : Picture) (shaped : Shaped pic)
+    (fits : PictureInRange p pic) (out : List ℕ) (enough : sizeFor p ≤ length out) (r : Painted) (after : List ℕ)
+    (answers : r ≡ Paint.answer b pic (length out)) (wrote : after ≡ Paint.output b pic out) where
   -- The bytes that `paint` wrote: those before its place.
   abbrev pub stream : List ℕ
   stream = take (Paint.place r .0) after
@@ -61,16 +64,18 @@ module _ (b : ℕ) (p : Part) (named : partOf b ≡ Is p) (pic : Picture) (shape
   reads =
       subst⁻¹ (λ (l : List ℕ). (endOf (walked p l) ≡ Done) × (events (walked p l) ≡ eventsFor p pic)) stream-is (painting-accepted p pic)
 
-  -- "The stream that paints a picture, fed to that part in any state, leaves exactly that memory and those settings": the bytes that `paint` wrote are
-  -- records to their end, and their events lead any chip to exactly one, the painted one.
-  pub paint-paints : (endOf (walked p stream) ≡ Done) × ((c : Fact p → ℕ) → OneEnd (range p) (map (move p) (eventsFrom p 0 stream)) c (paintedBy p pic c))
+  -- "The stream that paints a picture, fed to that part in any state, leaves exactly that memory and those settings":
+  -- the bytes that `paint` wrote are records to their end, and their events lead any chip to exactly one, the painted
+  -- one.
+  pub paint-paints : (endOf (walked p stream) ≡ Done)
+      × ((c : Fact p → ℕ) → OneEnd (range p) (map (move p) (eventsFrom p 0 stream)) c (paintedBy p pic c))
   paint-paints = (
     reads .0,
     λ c. subst⁻¹ (λ (es : List Event). OneEnd (range p) (map (move p) es) c (paintedBy p pic c)) (reads .1) (painting-paints p pic shaped fits c),
   )
 
-  -- The bytes that `paint` wrote, replayed from any good knowledge: accepted, and every fact that a painting settles is known, as `repaintedBy` says; the others
-  -- are known as they were.
+  -- The bytes that `paint` wrote, replayed from any good knowledge: accepted, and every fact that a painting settles
+  -- is known, as `repaintedBy` says; the others are known as they were.
   pub paint-replays : (k : Panel) (q : Replayed) → Sound (range p) (knownOf p k) → Replays (partOf b) k stream 0 q
       → (Replay.number (q .answer) ≡ 0) × (Replay.place (q .answer) ≡ sizeFor p)
       × ((f : Fact p) → knownOf p (q .panel) f ≡ repaintedBy p pic (knownOf p k) f) × OtherKept p k (q .panel)

@@ -1,5 +1,6 @@
--- What the tail finder is for: behind its last gap a recording tells all that it tells. The argument: a gap leaves nothing known, whatever was known before
--- it, and so what the whole recording makes of any start is what the records behind its last gap make of knowing nothing.
+-- What the tail finder is for: behind its last gap a recording tells all that it tells. The argument: a gap leaves
+-- nothing known, whatever was known before it, and so what the whole recording makes of any start is what the records
+-- behind its last gap make of knowing nothing.
 use Prim.Native.Nat.{ℕ, zero, suc, _+_, _-_, _≤_}
 use native.Mathlib.Omega.{arith}
 use mathlib.Core.Path.{_≡_, refl, sym, ap, _∙_, subst, subst⁻¹}
@@ -54,7 +55,8 @@ from-nothing p before after k n nothing f =
     ∙ in-turn-append (same? p) (range p) (map (move p) before) (map (move p) (Gap ∷ after)) k f
     ∙ in-turn-same (same? p) (range p) (map (move p) after) _ n (λ g. gap-forgets p _ g ∙ sym (nothing g)) f
 
-module _ (b : ℕ) (p : Part) (named : partOf b ≡ Is p) (k : Panel) (l : List ℕ) (r : Replayed) (met : Replays (partOf b) k l 0 r) (zero : number (r .answer) ≡ 0) where
+module _ (b : ℕ) (p : Part) (named : partOf b ≡ Is p) (k : Panel) (l : List ℕ) (r : Replayed)
+    (met : Replays (partOf b) k l 0 r) (zero : number (r .answer) ≡ 0) where
   acceptable : Acceptable p k l 0
   acceptable = accepted p k l 0 r (replays-by k l 0 r (partOf b) p named met) zero .0
 
@@ -95,8 +97,10 @@ module _ (b : ℕ) (p : Part) (named : partOf b ≡ Is p) (k : Panel) (l : List 
         ∙ ap (λ (es : List Event). inTurn (same? p) (range p) (map (move p) es) (knownOf p k) f) (behind .parted)
         ∙ from-nothing p (behind .before) (events (walked p (drop (behind .skipped) l))) (knownOf p k) (knownOf p n) (nothing-of p n nothing) f)
 
-    -- With a gap, the tail replayed from knowing nothing is accepted, and ends knowing exactly what the whole recording makes of k, fact by fact.
-    pub tail-is-enough : Replays (partOf b) n (tailOf (partOf b) l) 0 q → (number (q .answer) ≡ 0) × ((f : Fact p) → knownOf p (q .panel) f ≡ knownOf p (r .panel) f)
+    -- With a gap, the tail replayed from knowing nothing is accepted, and ends knowing exactly what the whole
+    -- recording makes of k, fact by fact.
+    pub tail-is-enough : Replays (partOf b) n (tailOf (partOf b) l) 0 q
+        → (number (q .answer) ≡ 0) × ((f : Fact p) → knownOf p (q .panel) f ≡ knownOf p (r .panel) f)
     tail-is-enough again =
         let bytes : tailOf (partOf b) l ≡ drop (behind .skipped) l = tail-behind ∙ ap (λ (i : ℕ). drop i l) place-behind in
         let length-is = length-drop (behind .skipped) l in
@@ -108,7 +112,8 @@ module _ (b : ℕ) (p : Part) (named : partOf b ≡ Is p) (k : Panel) (l : List 
         (d .numbered, λ f. d .known f ∙ same-known f)
 
     -- So does the recording itself, replayed from the place where the tail starts.
-    pub tail-place-is-enough : Replays (partOf b) n l (found (partOf b) l .start .0) q → (number (q .answer) ≡ 0) × ((f : Fact p) → knownOf p (q .panel) f ≡ knownOf p (r .panel) f)
+    pub tail-place-is-enough : Replays (partOf b) n l (found (partOf b) l .start .0) q
+        → (number (q .answer) ≡ 0) × ((f : Fact p) → knownOf p (q .panel) f ≡ knownOf p (r .panel) f)
     tail-place-is-enough again =
         let at : found (partOf b) l .start .0 ≡ behind .skipped = ap (λ (x : Found). x .start .0) found-behind ∙ place-behind in
         let d =

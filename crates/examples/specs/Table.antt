@@ -1,5 +1,6 @@
--- Paper 01's examples P1 to P14 in one table, proved by one test that computes and one law. A row has the number of its example, the part, what is known before, the
--- recording, its number and place, and what is known afterwards; the rows of P14 have the picture and the output, before and afterwards.
+-- Paper 01's examples P1 to P14 in one table, proved by one test that computes and one law. A row has the number of
+-- its example, the part, what is known before, the recording, its number and place, and what is known afterwards; the
+-- rows of P14 have the picture and the output, before and afterwards.
 use Prim.Native.Nat.{ℕ, zero, suc}
 use native.Mathlib.Decide.{ℕ-discrete}
 use mathlib.Core.Path.{_≡_, refl}
@@ -70,7 +71,8 @@ painting l =
     0x02 ∷ 0x03 ∷ 0x07 ∷ 0x04 ∷ 0x02 ∷ 0x03 ∷ 0x40 ∷ 0x04 ∷ 0x02 ∷ 0x03 ∷ 0xC0
     ∷ noughts 22 (0x04 ∷ 0x02 ∷ 0x03 ∷ 0x41 ∷ 0x03 ∷ 0x0F ∷ 0x04 ∷ 0x02 ∷ 0x03 ∷ 0x80 ∷ 0x04 ∷ l)
 
--- P8, P12 and P13 have a row for each thing that they say. P14 has one with just enough room, one with a byte more, which is left as it was, and one with a byte less.
+-- P8, P12 and P13 have a row for each thing that they say. P14 has one with just enough room, one with a byte more,
+-- which is left as it was, and one with a byte less.
 abbrev pub table : List Row
 table =
     replayed 1 Pt6312 [] (0x01 ∷ 0x02 ∷ 0x03 ∷ 0xC0 ∷ 0x03 ∷ 0x5A ∷ 0x04 ∷ []) 0 7 (fact (cell 0x00) is known 0x5A ∷ fact address is at 0x01 ∷ cells 0x01 21 unknown)

@@ -1,4 +1,5 @@
--- What a rule makes of a knowledge: where it looks at a fact that is unknown, it goes every way, and keeps what all the ways have in common.
+-- What a rule makes of a knowledge: where it looks at a fact that is unknown, it goes every way, and keeps what all
+-- the ways have in common.
 use Prim.Native.Nat.{ℕ, zero, suc}
 use mathlib.Core.Bool.{Bool, true, false}
 use lib.Dec.{eqb}
@@ -37,4 +38,5 @@ learn same? g v k f = elim (same? f g) [ yes e ↦ known v | no n ↦ k f ]
 module _ {F : Type 0} (same? : Discrete F) (range : F → ℕ) where
   abbrev pub know : {R : Type 0} → Rule F R → (F → Standing) → R → Standing
   know (gives φ) k r = lifted k (φ r)
-  know (look g κ) k r = elim (k g) [ known v ↦ know (κ v) k r | unknown ↦ common (range g) (λ w. know (κ w) (learn same? g w k) r) ]
+  know (look g κ) k r =
+      elim (k g) [ known v ↦ know (κ v) k r | unknown ↦ common (range g) (λ w. know (κ w) (learn same? g w k) r) ]

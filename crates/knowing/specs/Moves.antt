@@ -1,5 +1,5 @@
--- The same over whole chips, in demand 3's own words: after one event, a fact is known exactly when all chips that fit the earlier knowledge,
--- moved as the rules allow, agree on it, and has their value.
+-- The same over whole chips, in demand 3's own words: after one event, a fact is known exactly when all chips that
+-- fit the earlier knowledge, moved as the rules allow, agree on it, and has their value.
 use Prim.Native.Nat.{ℕ, _≤_}
 use native.Mathlib.Omega.{arith}
 use mathlib.Core.Path.{_≡_, refl, sym, _∙_, subst⁻¹}

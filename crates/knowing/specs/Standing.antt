@@ -29,8 +29,10 @@ Sound {F} range k = (f : F) → Within (range f) (k f)
 
 -- All chips that fit the knowledge k, moved as the rule allows, agree on the value v for r.
 abbrev pub Agree : {F R : Type 0} → (F → ℕ) → (R → ℕ) → Rule F R → (F → Standing) → R → ℕ → Type 0
-Agree {F} range answers rule k r v = (c : F → ℕ) → Good range c → Fits k c → (w : ℕ) → Allows (answers r) (run rule c r) w → w ≡ v
+Agree {F} range answers rule k r v =
+    (c : F → ℕ) → Good range c → Fits k c → (w : ℕ) → Allows (answers r) (run rule c r) w → w ≡ v
 
 -- r is known exactly when all fitting chips agree on it, and has their value.
 abbrev pub Exact : {F R : Type 0} → (F → ℕ) → (R → ℕ) → Rule F R → (F → Standing) → R → Standing → Type 0
-Exact range answers rule k r s = (v : ℕ) → (s ≡ known v → Agree range answers rule k r v) × (Agree range answers rule k r v → s ≡ known v)
+Exact range answers rule k r s =
+    (v : ℕ) → (s ≡ known v → Agree range answers rule k r v) × (Agree range answers rule k r v → s ≡ known v)

@@ -1,4 +1,5 @@
--- Laws of decimal: its twenty digits are enough for every number of 64 bits, so that it is always a tenth of the number and the last digit.
+-- Laws of decimal: its twenty digits are enough for every number of 64 bits, so that it is always a tenth of the
+-- number and the last digit.
 use Prim.Native.Nat.{ℕ, zero, suc, _/_, _%_, _^_, _<_, _≤_}
 use native.Mathlib.Nat.{pow-suc, mod-eq-of-lt}
 use native.Mathlib.Omega.{arith}

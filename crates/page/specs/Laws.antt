@@ -1,4 +1,5 @@
--- What is written is the page: the number of the answer tells which page it is, and what was written with enough room is printed.
+-- What is written is the page: the number of the answer tells which page it is, and what was written with enough room
+-- is printed.
 use Prim.Native.Nat.{ℕ, zero, suc, _<_, _≤_}
 use native.Mathlib.Omega.{arith}
 use mathlib.Core.Bool.{Bool, true, false}

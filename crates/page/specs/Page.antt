@@ -40,7 +40,9 @@ memory (Refused at) k = []
 
 -- "done at N".
 abbrev pub doneAt : ℕ → List ℕ
-doneAt n = (code "d" ∷ code "o" ∷ code "n" ∷ code "e" ∷ code " " ∷ code "a" ∷ code "t" ∷ code " " ∷ []) ++ (decimal n ++ (newline ∷ []))
+doneAt n =
+    (code "d" ∷ code "o" ∷ code "n" ∷ code "e" ∷ code " " ∷ code "a" ∷ code "t" ∷ code " " ∷ [])
+    ++ (decimal n ++ (newline ∷ []))
 
 -- "refused N at P".
 abbrev pub refusedAt : ℕ → ℕ → List ℕ
@@ -60,8 +62,8 @@ page q answer k = printed q (number answer) (place answer) k
 abbrev pub room : ℕ
 room = 300
 
--- The page stands at the front of the output, the rest is as it was, and the answer is the page's length. With less room than that, nothing is written,
--- and the answer is 0.
+-- The page stands at the front of the output, the rest is as it was, and the answer is the page's length. With less
+-- room than that, nothing is written, and the answer is 0.
 pub record Prints (text out : List ℕ) (r : ℕ) (out′ : List ℕ) : Type 0 where
   pub roomy : room ≤ length out → (r ≡ length text) × (out′ ≡ text ++ drop (length text) out)
   pub tight : length out < room → (r ≡ 0) × (out′ ≡ out)

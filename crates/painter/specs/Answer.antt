@@ -1,4 +1,5 @@
--- The whole answer of the painter: the number and its place, and every byte of the output afterwards (paper 01, "Numbers given back").
+-- The whole answer of the painter: the number and its place, and every byte of the output afterwards (paper 01,
+-- "Numbers given back").
 use Prim.Native.Nat.{ℕ}
 use mathlib.Core.Bool.{Bool}
 use mathlib.Core.List.{List, [], _++_}
@@ -67,8 +68,8 @@ answerFor (Refused a) p room = NoPart a
 abbrev pub answer : ℕ → Picture → ℕ → Painted
 answer part p room = answerFor (partOf part) p room
 
--- The number and the place of that answer, as paper 01's table has them: 1 for no part; else 9 for a value out of range; else 10 for too little
--- room; else 0, whose place is the length written. The place of every refusal is 0.
+-- The number and the place of that answer, as paper 01's table has them: 1 for no part; else 9 for a value out of
+-- range; else 10 for too little room; else 0, whose place is the length written. The place of every refusal is 0.
 abbrev pub judgedNumber : Bool → ℕ → ℕ → ℕ
 judgedNumber fits size room = whether fits (whether (leb size room) 0 10) 9
 

@@ -1,5 +1,6 @@
--- What the painter answers where it has a part, a picture within its ranges and room enough: done, with the painting in front. The argument: its tests let
--- such a picture pass, and the stream is as long as the size of the part's painting.
+-- What the painter answers where it has a part, a picture within its ranges and room enough: done, with the painting
+-- in front. The argument: its tests let such a picture pass, and the stream is as long as the size of the part's
+-- painting.
 use Prim.Native.Nat.{ℕ, _+_, _*_, _≤_}
 use native.Mathlib.Omega.{arith}
 use mathlib.Core.Path.{_≡_, refl, sym, ap, _∙_}

@@ -22,7 +22,8 @@ use lib.Dec.{leb}
 use Rattle.rules.specs.Choice.{whether}
 use Rattle.writing.specs.Sets.{front}
 
--- The answer r and the output `now′` are those of a picture with the test t, the size n and that stream, on the output `out`.
+-- The answer r and the output `now′` are those of a picture with the test t, the size n and that stream, on the
+-- output `out`.
 abbrev pub Answers : Bool → ℕ → List ℕ → List ℕ → Painted → List ℕ → Type 0
 Answers t n stream out r now′ = (r ≡ judged t n (length out)) × (now′ ≡ written (judged t n (length out)) stream out)
 

@@ -19,17 +19,23 @@ pub record InRanges (p : CharacterPicture) : Type 0 where
   pub duty-in : p .duty < range duty
   pub digits-in : p .digits < range digits
 
--- Seven strobes: 10H and 16 bytes; 20H and 40 columns; 30H and 16 pairs; port; duty; digits; lights (0 normal, 1 off, 2 on).
+-- Seven strobes: 10H and 16 bytes; 20H and 40 columns; 30H and 16 pairs; port; duty; digits; lights (0 normal, 1 off,
+-- 2 on).
 abbrev pub threeRams : List ℕ → List ℕ → List ℕ → List Event → List Event
 threeRams ds gs pairs rest = strobe (0x10 ∷ ds) ++ (strobe (0x20 ∷ gs) ++ (strobe (0x30 ∷ pairs) ++ rest))
 
 abbrev pub fourSettings : ℕ → ℕ → ℕ → ℕ → List Event
-fourSettings p u n l = strobe ((0x40 + p) ∷ []) ++ (strobe ((0x50 + u) ∷ []) ++ (strobe ((0x60 + n) ∷ []) ++ strobe ((0x70 + l) ∷ [])))
+fourSettings p u n l =
+    strobe ((0x40 + p) ∷ [])
+    ++ (strobe ((0x50 + u) ∷ [])
+    ++ (strobe ((0x60 + n) ∷ [])
+    ++ strobe ((0x70 + l) ∷ [])))
 
 abbrev pub painting : CharacterPicture → List Event
 painting p = threeRams (p .dcram) (p .cgram) (p .adram) (fourSettings (p .port) (p .duty) (p .digits) (lit (p .lights)))
 
--- The chip that was c, painted: memory and settings are the picture's. The addresses have gone round to 0, and the transfer is over.
+-- The chip that was c, painted: memory and settings are the picture's. The addresses have gone round to 0, and the
+-- transfer is over.
 abbrev pub painted : CharacterPicture → (Fact → ℕ) → Fact → ℕ
 painted p c (dcram i) = whether (ltb i 16) (getD (p .dcram) i 0) (c (dcram i))
 painted p c (cgram i) = whether (ltb i 40) (getD (p .cgram) i 0) (c (cgram i))

@@ -1,6 +1,6 @@
--- From every PT6302, whatever its state, the painting leads to the painted chip. The argument: each strobe begins with a fall, so its first byte
--- is read as a command, whatever stood before; each RAM is a row that is walked from its first cell to its last; what a later strobe does
--- not set, it leaves alone.
+-- From every PT6302, whatever its state, the painting leads to the painted chip. The argument: each strobe begins
+-- with a fall, so its first byte is read as a command, whatever stood before; each RAM is a row that is walked from
+-- its first cell to its last; what a later strobe does not set, it leaves alone.
 use Prim.Native.Nat.{ℕ, suc, _+_, _*_, _/_, _%_, _<_}
 use native.Mathlib.Omega.{arith}
 use native.Mathlib.Numerals.{add-one}

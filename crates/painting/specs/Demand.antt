@@ -1,6 +1,7 @@
--- The second half of demand 2: fed to a chip in any state, the stream that paints a picture leaves exactly that memory and those settings. Of
--- all the chips to which its events may lead, by the rules, there is one and it is the painted chip. The argument: every event of a painting says what
--- becomes of every fact, so that it surely leads where it may lead.
+-- The second half of demand 2: fed to a chip in any state, the stream that paints a picture leaves exactly that
+-- memory and those settings. Of all the chips to which its events may lead, by the rules, there is one and it is the
+-- painted chip. The argument: every event of a painting says what becomes of every fact, so that it surely leads
+-- where it may lead.
 use Prim.Native.Nat.{ℕ}
 use mathlib.Core.List.{List, map}
 use Rattle.rules.specs.Rule.{Rule}

@@ -28,13 +28,17 @@ control p = 0x80 + shows (p .display) * 8 + p .dimming
 -- Five strobes: mode; 40H; C0H and all cells; 41H and LED; control.
 abbrev pub fiveStrobes : ℕ → List ℕ → ℕ → ℕ → List Event
 fiveStrobes m cells lamps c =
-    strobe (m ∷ []) ++ (strobe (0x40 ∷ []) ++ (strobe (0xC0 ∷ cells) ++ (strobe (0x41 ∷ lamps ∷ []) ++ strobe (c ∷ []))))
+    strobe (m ∷ [])
+    ++ (strobe (0x40 ∷ [])
+    ++ (strobe (0xC0 ∷ cells)
+    ++ (strobe (0x41 ∷ lamps ∷ [])
+    ++ strobe (c ∷ []))))
 
 abbrev pub painting : Sizes → SegmentPicture → List Event
 painting s p = fiveStrobes (p .mode) (take (s .cells) (p .cells)) (p .led) (control p)
 
--- The chip that was c, painted: memory and settings are the picture's. Behind the last cell the address is invalid, the data setting is
--- that of the LED strobe, the transfer is over, and keys and switches are as they were.
+-- The chip that was c, painted: memory and settings are the picture's. Behind the last cell the address is invalid,
+-- the data setting is that of the LED strobe, the transfer is over, and keys and switches are as they were.
 abbrev pub painted : Sizes → SegmentPicture → (Fact → ℕ) → Fact → ℕ
 painted s p c (cell i) = whether (ltb i (s .cells)) (getD (p .cells) i 0) (c (cell i))
 painted s p c address = pointer Invalid

@@ -1,6 +1,6 @@
--- From every chip of a part, whatever its state, the painting leads to the painted chip. The argument: each strobe begins with a fall, so its
--- first byte is read as a command, whatever stood before; the walk over the cells is one induction, from cell 0 to the last; what a later
--- strobe does not set, it leaves alone.
+-- From every chip of a part, whatever its state, the painting leads to the painted chip. The argument: each strobe
+-- begins with a fall, so its first byte is read as a command, whatever stood before; the walk over the cells is one
+-- induction, from cell 0 to the last; what a later strobe does not set, it leaves alone.
 use Prim.Native.Nat.{ℕ, suc, _+_, _*_, _/_, _%_, _<_, _≤_, min}
 use native.Mathlib.Omega.{arith}
 use native.Mathlib.Numerals.{add-one}

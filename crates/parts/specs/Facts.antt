@@ -1,5 +1,5 @@
--- The facts of each part, their ranges and its moves (paper 01, "Facts and chips" and the two sections of moves), so that what holds of every
--- part is said once, over the part.
+-- The facts of each part, their ranges and its moves (paper 01, "Facts and chips" and the two sections of moves), so
+-- that what holds of every part is said once, over the part.
 use Prim.Native.Nat.{ℕ}
 use Rattle.rules.specs.Rule.{Rule}
 use Rattle.terms.specs.declared.Event.{Event}

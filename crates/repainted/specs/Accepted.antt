@@ -1,6 +1,6 @@
--- What is recorded is read back. The argument: the record at the front of a recording is its first event, whole and allowed; what stands behind it is
--- the recording of the other events. A painting is made of falls, bytes and rises, which every part has and whose bodies are free, so it is always
--- accepted.
+-- What is recorded is read back. The argument: the record at the front of a recording is its first event, whole and
+-- allowed; what stands behind it is the recording of the other events. A painting is made of falls, bytes and rises,
+-- which every part has and whose bodies are free, so it is always accepted.
 use Prim.Native.Nat.{ℕ, zero, suc, _+_, _<_, _≤_}
 use native.Mathlib.Omega.{arith}
 use mathlib.Core.Path.{_≡_, refl, ap}

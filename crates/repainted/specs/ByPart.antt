@@ -1,4 +1,5 @@
--- A painting, recorded and read back, for any part: its records are the painting's events, and these in turn leave known what `Repainted` says.
+-- A painting, recorded and read back, for any part: its records are the painting's events, and these in turn leave
+-- known what `Repainted` says.
 use mathlib.Core.Path.{_≡_}
 use mathlib.Core.List.{map}
 use Rattle.knowing.specs.Standing.{Standing}

@@ -1,6 +1,7 @@
--- What is known of a PT6302 after a painting, whatever was known before. The argument: each strobe begins with a fall, so that its first byte is known
--- to be a command; the command sets the position, and the address of the RAM whose bytes follow, so that each of these looks at what is known
--- too. So the knowledge goes as every chip goes, and every chip ends painted.
+-- What is known of a PT6302 after a painting, whatever was known before. The argument: each strobe begins with a
+-- fall, so that its first byte is known to be a command; the command sets the position, and the address of the RAM
+-- whose bytes follow, so that each of these looks at what is known too. So the knowledge goes as every chip goes, and
+-- every chip ends painted.
 use Prim.Native.Nat.{ℕ, _+_, _*_, _/_, _%_, _<_}
 use native.Mathlib.Omega.{arith}
 use mathlib.Core.Path.{_≡_, refl, _∙_}
@@ -26,10 +27,10 @@ use Rattle.character.specs.declared.chip.Lights.{Lights}
 use Rattle.character.specs.declared.chip.Lights.the-variants.{Normal, Off, On}
 use Rattle.character.specs.declared.chip.Position.the-variants.{Idle}
 use Rattle.character.specs.Value.{lit, at-position}
-use Rattle.character.specs.Command.{commandOf}
+use Rattle.character.specs.Command.{commandOf, Defined}
 use Rattle.character.specs.Move.{Forms, sets, commanded, drawn, byteIn, move}
 use Rattle.character.specs.Laws.{every}
-use Rattle.character.specs.Touch.{Defined, settled}
+use Rattle.character.specs.Touch.{settled}
 use Rattle.painting.specs.declared.CharacterPicture.{CharacterPicture}
 use Rattle.painting.specs.Character.{InRanges, painting, painted}
 use Rattle.painting.specs.CharacterLeads.{paints}

@@ -1,6 +1,7 @@
--- Rules in turn, where each looks only at what is known and leaves nothing as anything. The argument: take the chip that has some number d wherever
--- nothing is known. It goes the one way that the knowledge goes, rule by rule, and so it ends as the knowledge does, with d wherever nothing is
--- known. So whoever knows where that chip ends, for every d, knows what is known at the end.
+-- Rules in turn, where each looks only at what is known and leaves nothing as anything. The argument: take the chip
+-- that has some number d wherever nothing is known. It goes the one way that the knowledge goes, rule by rule, and so
+-- it ends as the knowledge does, with d wherever nothing is known. So whoever knows where that chip ends, for every
+-- d, knows what is known at the end.
 use Prim.Native.Nat.{ℕ}
 use native.Mathlib.Omega.{arith}
 use mathlib.Core.Path.{_≡_, refl, sym, ap, _∙_, fun-ext, subst⁻¹}
@@ -35,7 +36,8 @@ filled-where d true v s = refl
 filled-where d false v s = refl
 
 module _ {F : Type 0} (same? : Discrete F) (range : F → ℕ) where
-  -- The chip that has d wherever k does not know becomes the chip that has d wherever nothing is known afterwards, for every d.
+  -- The chip that has d wherever k does not know becomes the chip that has d wherever nothing is known afterwards,
+  -- for every d.
   abbrev pub Fills : Rule F F → (F → Standing) → Type 0
   Fills rule k = (d : ℕ) (f : F) → run rule (filled d k) f ≡ becomes (fill d (know same? range rule k f))
 

@@ -23,8 +23,8 @@ use Rattle.painting.specs.declared.Picture.{Picture}
 use Rattle.painting.specs.declared.SegmentPicture.{SegmentPicture}
 use Rattle.painting.specs.declared.CharacterPicture.{CharacterPicture}
 
--- The picture is known, and so are the settings and the position that a painting leaves. Keys and switches are known as they were, and so is what
--- stands behind the last cell.
+-- The picture is known, and so are the settings and the position that a painting leaves. Keys and switches are known
+-- as they were, and so is what stands behind the last cell.
 abbrev pub segmentRepainted : Sizes → SegmentPicture → (Segment.Fact → Standing) → Segment.Fact → Standing
 segmentRepainted s p k (Segment.cell i) = whether (ltb i (s .cells)) (known (getD (p .cells) i 0)) (k (Segment.cell i))
 segmentRepainted s p k Segment.address = known (pointer Invalid)
@@ -39,7 +39,8 @@ segmentRepainted s p k Segment.switches = k Segment.switches
 segmentRepainted s p k Segment.readCount = known 0
 segmentRepainted s p k Segment.position = known (at-position SegmentPosition.Idle)
 
--- The picture is known, and so are the addresses and the position that a painting leaves. What stands behind the numbers that a RAM has is as it was.
+-- The picture is known, and so are the addresses and the position that a painting leaves. What stands behind the
+-- numbers that a RAM has is as it was.
 abbrev pub characterRepainted : CharacterPicture → (Character.Fact → Standing) → Character.Fact → Standing
 characterRepainted p k (Character.dcram i) = whether (ltb i 16) (known (getD (p .dcram) i 0)) (k (Character.dcram i))
 characterRepainted p k (Character.cgram i) = whether (ltb i 40) (known (getD (p .cgram) i 0)) (k (Character.cgram i))

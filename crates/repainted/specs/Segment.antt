@@ -1,7 +1,8 @@
--- What is known of a PT6312 or PT6315 after a painting, whatever was known before. The argument: each strobe begins with a fall, so that its first byte
--- is known to be a command, and all that the bytes behind it look at has been set: the data mode and increment by 40H or 41H, the address by C0H. Only
--- the mode command may look at what is not known, the mode itself; but every way comes to the same mode, and to the same position. Behind that
--- byte the knowledge goes as every chip goes, and every chip ends painted.
+-- What is known of a PT6312 or PT6315 after a painting, whatever was known before. The argument: each strobe begins
+-- with a fall, so that its first byte is known to be a command, and all that the bytes behind it look at has been
+-- set: the data mode and increment by 40H or 41H, the address by C0H. Only the mode command may look at what is not
+-- known, the mode itself; but every way comes to the same mode, and to the same position. Behind that byte the
+-- knowledge goes as every chip goes, and every chip ends painted.
 use Prim.Native.Nat.{ℕ, zero, suc, _+_, _*_, _/_, _%_, _<_}
 use native.Mathlib.Omega.{arith}
 use mathlib.Core.Path.{_≡_, refl, sym, ap, _∙_}
@@ -183,7 +184,8 @@ module _ (q : Family) (p : SegmentPicture) (fits : InRanges (sizes q) p) (whole 
   abbrev rest : List (Rule Fact Fact)
   rest = map (move (sizes q)) (Rises ∷ four (sizes q) p)
 
-  -- A chip that has d wherever nothing is known behind the mode byte is painted by the rest, since the mode byte would not have changed it.
+  -- A chip that has d wherever nothing is known behind the mode byte is painted by the rest, since the mode byte
+  -- would not have changed it.
   ends-painted : (d : ℕ) (x : Fact → ℕ) → Surely rest (filled d k₁) x → (f : Fact) → x f ≡ fill d (repainted (sizes q) p k₁ f)
   ends-painted d x h f =
       let c : Fact → ℕ = filled d k₁ in

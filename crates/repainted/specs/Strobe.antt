@@ -1,5 +1,6 @@
--- A strobe, for any part. The argument: it falls, whatever was known, and so its first byte is known to be a command; what the command sets is known,
--- and a row of bytes behind it may look at that; at last it rises. So strobes are taken one by one, each from what its predecessors have set.
+-- A strobe, for any part. The argument: it falls, whatever was known, and so its first byte is known to be a command;
+-- what the command sets is known, and a row of bytes behind it may look at that; at last it rises. So strobes are
+-- taken one by one, each from what its predecessors have set.
 use Prim.Native.Nat.{ℕ}
 use mathlib.Core.Path.{_≡_}
 use mathlib.Core.List.{List, [], _∷_, _++_, map}

@@ -1,13 +1,14 @@
--- The answer of a replay, said once over the part, and what an accepted recording is. The argument: for each part the promise of `Replays` is the same one
--- over that part's facts. So number 0 is given exactly where the tests let the recording pass and its records end at its end; then the answer is the done
--- one.
-use Prim.Native.Nat.{ℕ, _≤_}
+-- The answer of a replay, said once over the part, and what an accepted recording is. The argument: for each part the
+-- promise of `Replays` is the same one over that part's facts. So number 0 is given exactly where the tests let the
+-- recording pass and its records end at its end; then the answer is the done one.
+use Prim.Native.Nat.{ℕ, _+_, _≤_}
 use native.Mathlib.Omega.{arith}
 use mathlib.Core.Path.{_≡_, refl, sym, _∙_, subst}
 use mathlib.Core.List.{List}
 use lib.ListN.{length, drop}
 use Rattle.knowing.specs.Standing.{Sound}
 use Rattle.terms.specs.declared.Event.{Event}
+use Rattle.terms.specs.declared.Place.{Place}
 use Rattle.terms.specs.declared.Part.{Part}
 use Rattle.terms.specs.declared.Part.the-variants.{Pt6302, Pt6312, Pt6315}
 use Rattle.terms.specs.declared.PartRead.{PartRead}
@@ -23,7 +24,7 @@ use Rattle.parts.specs.Facts.{same?, range, move}
 use Rattle.panel.specs.declared.knowledge.Panel.{Panel}
 use Rattle.panel.specs.View.{good, bad, knownOf, OtherKept}
 use Rattle.replay.specs.declared.answer.Replayed.{Replayed}
-use Rattle.replay.specs.Answer.{number, place}
+use Rattle.replay.specs.Answer.{number, place, RefusedBy}
 use Rattle.replay.specs.Replay.{ByEnding, Tested, ReplaysPart, Replays}
 
 -- Done: number 0 and the recording's length; the events in turn, and the other half kept.
@@ -84,7 +85,8 @@ records-end : (e : Ending) (start : ℕ) (k : Panel) (r : Replayed) (P : Type 0)
 records-end Done start k r P z p = (refl, p)
 records-end (Stops x at) start k r P z p = absurd (refusal-numbered x (sym (p .numbered) ∙ z))
 
--- What a replay accepts: the knowledge is in range, the recording not too long, the start place within it, and its records from there on end at its end.
+-- What a replay accepts: the knowledge is in range, the recording not too long, the start place within it, and its
+-- records from there on end at its end.
 pub record Acceptable (p : Part) (k : Panel) (l : List ℕ) (start : ℕ) : Type 0 where
   pub in-range : Sound (range p) (knownOf p k)
   pub short : length l ≤ 65535
@@ -113,3 +115,19 @@ module _ (p : Part) (k : Panel) (l : List ℕ) (start : ℕ) (r : Replayed) (met
   -- What is acceptable is accepted.
   pub accepts : Acceptable p k l start → PartDone p (events (walked p (drop start l))) k l r
   accepts a = subst (λ (e : Ending). ByEnding e start k r (PartDone p (events (walked p (drop start l))) k l r)) (a .ends) (passed (a .in-range) (a .short) (a .within))
+
+  -- Refused by 5, 6, 7 or 8: the records stop at one that is none, at its place.
+  pub record-refused : 5 ≤ number (r .answer)
+      → (x : Refusal) × (at : Place) × (endOf (walked p (drop start l)) ≡ Stops x at) × RefusedBy (Record.number x) (start + at .0) k r
+  record-refused five = go met
+    where
+      by : (e : Ending) → endOf (walked p (drop start l)) ≡ e → ByEnding e start k r (PartDone p (events (walked p (drop start l))) k l r)
+          → (x : Refusal) × (at : Place) × (endOf (walked p (drop start l)) ≡ Stops x at) × RefusedBy (Record.number x) (start + at .0) k r
+      by Done q h = absurd (let n = h .numbered in omega (arith, n, five))
+      by (Stops x at) q h = (x, at, q, h)
+
+      go : ReplaysBy p k l start r → (x : Refusal) × (at : Place) × (endOf (walked p (drop start l)) ≡ Stops x at) × RefusedBy (Record.number x) (start + at .0) k r
+      go (good _ (good _ (good _ h))) = by (endOf (walked p (drop start l))) refl h
+      go (good _ (good _ (bad _ h))) = absurd (let n = h .numbered in omega (arith, n, five))
+      go (good _ (bad _ h)) = absurd (let n = h .numbered in omega (arith, n, five))
+      go (bad _ h) = absurd (let n = h .numbered in omega (arith, n, five))

@@ -33,16 +33,19 @@ use Rattle.replay.specs.Answer.{number, place, RefusedBy}
 pub record SegmentDone (p : Family) (es : List Event) (k : Panel) (l : List ℕ) (r : Replayed) : Type 0 where
   pub numbered : number (r .answer) ≡ 0
   pub placed : place (r .answer) ≡ length l
-  pub known : InTurn OfSegment.kview SegmentFact.same? (SegmentFact.range (sizes p)) (SegmentMove.move (sizes p)) es (k .segment) (r .panel .segment)
+  pub known : InTurn OfSegment.kview SegmentFact.same? (SegmentFact.range (sizes p)) (SegmentMove.move (sizes p)) es
+      (k .segment) (r .panel .segment)
   pub kept : r .panel .character ≡ k .character
 
 pub record CharacterDone (es : List Event) (k : Panel) (l : List ℕ) (r : Replayed) : Type 0 where
   pub numbered : number (r .answer) ≡ 0
   pub placed : place (r .answer) ≡ length l
-  pub known : InTurn OfCharacter.kview CharacterFact.same? CharacterFact.range CharacterMove.move es (k .character) (r .panel .character)
+  pub known : InTurn OfCharacter.kview CharacterFact.same? CharacterFact.range CharacterMove.move es
+      (k .character) (r .panel .character)
   pub kept : r .panel .segment ≡ k .segment
 
--- By how the records end: P where they are done, else 5, 6, 7 or 8 at the record's first byte, counted from the front of the whole recording.
+-- By how the records end: P where they are done, else 5, 6, 7 or 8 at the record's first byte, counted from the front
+-- of the whole recording.
 abbrev pub ByEnding : Ending → ℕ → Panel → Replayed → Type 0 → Type 0
 ByEnding Done start k r P = P
 ByEnding (Stops x at) start k r P = RefusedBy (Record.number x) (start + at .0) k r
@@ -56,16 +59,20 @@ CharacterWalks k l start w r = ByEnding (endOf w) start k r (CharacterDone (even
 -- Tests 2, 4, 3, each exactly then and at place 0.
 abbrev pub Tested : Type 0 → Panel → List ℕ → ℕ → Replayed → Type 0 → Type 0
 Tested good k l start r P =
-    Where good (Where (length l ≤ 65535) (Where (start ≤ length l) P (RefusedBy 3 0 k r)) (RefusedBy 4 0 k r)) (RefusedBy 2 0 k r)
+    Where good
+    (Where (length l ≤ 65535) (Where (start ≤ length l) P (RefusedBy 3 0 k r)) (RefusedBy 4 0 k r))
+    (RefusedBy 2 0 k r)
 
 -- Then the records from the start place on.
 abbrev pub SegmentReplays : Part → Family → Panel → List ℕ → ℕ → Replayed → Type 0
 SegmentReplays part p k l start r =
-    Tested (Sound (SegmentFact.range (sizes p)) (OfSegment.kview (k .segment))) k l start r (SegmentWalks p k l start (walked part (drop start l)) r)
+    Tested (Sound (SegmentFact.range (sizes p)) (OfSegment.kview (k .segment))) k l start r
+    (SegmentWalks p k l start (walked part (drop start l)) r)
 
 abbrev pub CharacterReplays : Panel → List ℕ → ℕ → Replayed → Type 0
 CharacterReplays k l start r =
-    Tested (Sound CharacterFact.range (OfCharacter.kview (k .character))) k l start r (CharacterWalks k l start (walked Pt6302 (drop start l)) r)
+    Tested (Sound CharacterFact.range (OfCharacter.kview (k .character))) k l start r
+    (CharacterWalks k l start (walked Pt6302 (drop start l)) r)
 
 abbrev pub ReplaysPart : Part → Panel → List ℕ → ℕ → Replayed → Type 0
 ReplaysPart Pt6302 k l start r = CharacterReplays k l start r

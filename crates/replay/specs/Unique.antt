@@ -1,5 +1,5 @@
--- Two answers of a replay that meet its promise are equal. The argument: the number and place fix the answer, and what is known of every fact fixes the
--- knowledge.
+-- Two answers of a replay that meet its promise are equal. The argument: the number and place fix the answer, and
+-- what is known of every fact fixes the knowledge.
 use Prim.Native.Nat.{ℕ, zero, suc, _+_}
 use mathlib.Core.Path.{_≡_, refl, sym, _∙_}
 use mathlib.Core.List.{List}

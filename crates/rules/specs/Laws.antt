@@ -19,7 +19,8 @@ says-by-value k c r o v w e h = subst⁻¹ (λ (x : ℕ). run (k x) c r ≡ o) e
 pub became : (v w old : ℕ) (o : Outcome) → v ≡ w → o ≡ becomes w → _≡_ {A = Told} (record { value = v; any = false }) (told old o)
 became v w old o p q = rw (p, q)
 
--- Facts that are numbered, as cells are, stand in a list. Where one of them is set and the others are as φ has them, the list is set there.
+-- Facts that are numbered, as cells are, stand in a list. Where one of them is set and the others are as φ has them,
+-- the list is set there.
 module _ {F : Type 0} (same? : Discrete F) (numbered : ℕ → F) (apart : (i j : ℕ) → numbered i ≡ numbered j → i ≡ j) where
   pub becomes-set : (c : F → ℕ) (φ : F → Form F) (l : List ℕ) (a b i : ℕ) → a < length l → outcome c (φ (numbered i)) ≡ becomes (getD l i 0)
       → outcome c (change same? (numbered a) (value b) φ (numbered i)) ≡ becomes (getD (set l a b) i 0)

@@ -6,4 +6,5 @@ pub mod Touch
 pub mod Laws
 pub mod Unique
 pub mod Turn
+pub mod Results
 pub mod Walk

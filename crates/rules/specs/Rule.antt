@@ -1,5 +1,6 @@
--- A move as data. A chip is read as a function from its facts to numbers; a rule says what becomes of each fact.
--- F is the type of facts that a rule looks at, R that of what it answers for: the facts again for a move, one thing for a report.
+-- A move as data. A chip is read as a function from its facts to numbers; a rule says what becomes of each fact. F is
+-- the type of facts that a rule looks at, R that of what it answers for: the facts again for a move, one thing for a
+-- report.
 use Prim.Native.Nat.{ℕ}
 use mathlib.Core.Bool.{Bool, true, false}
 use mathlib.Core.Path.{_≡_}
@@ -40,7 +41,8 @@ abbrev pub told : ℕ → Outcome → Told
 told old (becomes v) = record { value = v; any = false }
 told old anything = record { value = old; any = true }
 
--- A chip that had the values `old` has the values `new`, and `any` says which facts are anything, as the rule has it: the whole answer of a
--- move, fact by fact.
+-- A chip that had the values `old` has the values `new`, and `any` says which facts are anything, as the rule has it:
+-- the whole answer of a move, fact by fact.
 abbrev pub Moves : {F : Type 0} → Rule F F → (F → ℕ) → (F → ℕ) → (F → Bool) → Type 0
-Moves {F} rule old new any = (f : F) → _≡_ {A = Told} (record { value = new f; any = any f }) (told (old f) (run rule old f))
+Moves {F} rule old new any =
+    (f : F) → _≡_ {A = Told} (record { value = new f; any = any f }) (told (old f) (run rule old f))

@@ -1,4 +1,5 @@
--- What fixes a value: its number where it has a name, its elements where it is a list, and the rule where it answers a move.
+-- What fixes a value: its number where it has a name, its elements where it is a list, and the rule where it answers
+-- a move.
 use Prim.Native.Nat.{ℕ}
 use mathlib.Core.Path.{_≡_, sym, ap, _∙_}
 use mathlib.Core.Bool.{Bool}

@@ -1,5 +1,5 @@
--- A walk over numbered facts, as a row of data bytes makes it: each move sets the fact whose turn it is and leaves the other numbered facts
--- alone. One induction over the bytes serves every memory of every part.
+-- A walk over numbered facts, as a row of data bytes makes it: each move sets the fact whose turn it is and leaves
+-- the other numbered facts alone. One induction over the bytes serves every memory of every part.
 use Prim.Native.Nat.{ℕ, suc, _+_, _-_, _<_, _≤_}
 use native.Mathlib.Omega.{arith}
 use native.Mathlib.Decide.{ℕ-discrete}
@@ -13,7 +13,8 @@ use Rattle.rules.specs.Choice.{whether}
 use Rattle.rules.specs.Rule.{Rule, becomes, run}
 use Rattle.rules.specs.Turn.{Surely, put, put-same, put-other}
 
--- One step of a walk: from c, whose next number is i, the byte b leads to a chip that holds `store b` at i, with the next number behind it.
+-- One step of a walk: from c, whose next number is i, the byte b leads to a chip that holds `store b` at i, with the
+-- next number behind it.
 pub record Step {F : Type 0} (numbered : ℕ → F) (rule : Rule F F) (v : ℕ) (Next : ℕ → (F → ℕ) → Type 0) (i : ℕ) (c : F → ℕ) : Type 0 where
   pub chip : F → ℕ
   pub moves : (f : F) → run rule c f ≡ becomes (chip f)

@@ -22,7 +22,8 @@ modeOf s b = min (b % s .codes) (s .top)
 abbrev pub steppingOf : ℕ → Stepping
 steppingOf b = whether (bit 2 b) Fixed Increment
 
--- 01 data setting. Bit 3 is test mode, whatever the others are (001); else bits 1 and 0. PT6315 follows PT6312 (H), but 11 is undefined.
+-- 01 data setting. Bit 3 is test mode, whatever the others are (001); else bits 1 and 0. PT6315 follows PT6312 (H),
+-- but 11 is undefined.
 abbrev pub settingOf : Sizes → ℕ → Command
 settingOf s b =
     whether (bit 3 b) Test
@@ -49,3 +50,12 @@ commandOf s b =
     (Control (b % 8) (displayOf b))
     (Start (pointerOf s b))
     (b / 64)
+
+-- The commands that are defined: all but test mode and, on PT6315, data setting 11.
+abbrev pub Defined : Command → Type 0
+Defined (Mode m) = Unit
+Defined Test = ⊥
+Defined (Setting d i) = Unit
+Defined (AnySetting i) = ⊥
+Defined (Control d o) = Unit
+Defined (Start a) = Unit

@@ -17,7 +17,8 @@ pub data Fact : Type 0 where
 abbrev pub same? : Discrete Fact
 same? = Fact-discrete ℕ-discrete
 
--- What a part lacks, as a cell past its last, a fourth key byte or switches, is no fact of it: whatever its storage holds is in range, and no rule looks at it.
+-- What a part lacks, as a cell past its last, a fourth key byte or switches, is no fact of it: whatever its storage
+-- holds is in range, and no rule looks at it.
 abbrev pub lacking : ℕ
 lacking = 65536
 

@@ -49,9 +49,11 @@ powered s switches = free
 powered s readCount = value 0
 powered s position = value (at-position Idle)
 
--- Mode m, by the mode so far: the same, and no setting changes; another is stored, with the display off. Either way then ignoring (H).
+-- Mode m, by the mode so far: the same, and no setting changes; another is stored, with the display off. Either way
+-- then ignoring (H).
 abbrev pub toMode : ℕ → ℕ → Rule Fact Fact
-toMode m old = whether (eqb old m) (gives (then Ignoring)) (gives (sets mode m (sets display (shows Off) (then Ignoring))))
+toMode m old =
+    whether (eqb old m) (gives (then Ignoring)) (gives (sets mode m (sets display (shows Off) (then Ignoring))))
 
 -- Test mode: everything but keys and switches is anything; then ignoring (H).
 abbrev pub tested : Forms
@@ -111,7 +113,8 @@ keysLatched s k0 k1 k2 k3 =
     (sets (key 2) k2
     (change same? (key 3) (whether (ltb 3 (s .keys)) (value k3) (copy (key 3))) keep)))
 
--- 08 stores what it carries, and is no event of a part without switches. A number above 15, which no recording carries, counts by its low bits.
+-- 08 stores what it carries, and is no event of a part without switches. A number above 15, which no recording
+-- carries, counts by its low bits.
 abbrev pub switchesLatched : Sizes → ℕ → Forms
 switchesLatched s v = whether (s .switched) (sets switches (v % 16) keep) keep
 

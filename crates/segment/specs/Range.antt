@@ -65,13 +65,13 @@ position-fits Open = omega arith
 position-fits Ignoring = omega arith
 
 -- What a command carries is in range.
-abbrev pub Sound : Sizes → Command → Type 0
-Sound s (Mode m) = m < suc (s .top)
-Sound s Test = Unit
-Sound s (Setting d i) = data-mode d < range s dataMode
-Sound s (AnySetting i) = Unit
-Sound s (Control d o) = d < 8
-Sound s (Start a) = pointer a < suc (s .cells)
+abbrev pub Carries : Sizes → Command → Type 0
+Carries s (Mode m) = m < suc (s .top)
+Carries s Test = Unit
+Carries s (Setting d i) = data-mode d < range s dataMode
+Carries s (AnySetting i) = Unit
+Carries s (Control d o) = d < 8
+Carries s (Start a) = pointer a < suc (s .cells)
 
 two-at-least : (t : Bool) → 2 < whether t 4 3
 two-at-least true = omega arith
@@ -80,24 +80,24 @@ two-at-least false = omega arith
 three-if : (t : Bool) → t ≡ true → 3 < whether t 4 3
 three-if t e = rw e (omega arith)
 
-setting-sound : (s : Sizes) (b : ℕ) → Sound s (settingOf s b)
-setting-sound s b =
+setting-carries : (s : Sizes) (b : ℕ) → Carries s (settingOf s b)
+setting-carries s b =
     let h = two-at-least (s .switched) in
-    whether-all (Sound s) (bit 3 b) _ _ (λ _. tt)
-    (λ _. of4-all (Sound s) _ _ _ _ (omega arith) (omega arith) h
-    (whether-all (Sound s) (s .switched) _ _ (three-if (s .switched)) (λ _. tt))
+    whether-all (Carries s) (bit 3 b) _ _ (λ _. tt)
+    (λ _. of4-all (Carries s) _ _ _ _ (omega arith) (omega arith) h
+    (whether-all (Carries s) (s .switched) _ _ (three-if (s .switched)) (λ _. tt))
     (b % 4))
 
-pointer-sound : (s : Sizes) (b : ℕ) → pointer (pointerOf s b) < suc (s .cells)
-pointer-sound s b =
+pointer-carries : (s : Sizes) (b : ℕ) → pointer (pointerOf s b) < suc (s .cells)
+pointer-carries s b =
     whether-all (λ (p : Pointer). pointer p < suc (s .cells)) (ltb (b % s .addresses) (s .cells)) _ _
     (λ t. omega (arith, ltb-true (b % s .addresses) (s .cells) t))
     (λ _. omega arith)
 
-pub command-sound : (s : Sizes) (b : ℕ) → Sound s (commandOf s b)
-command-sound s b =
-    of4-all (Sound s) (Mode (modeOf s b)) (settingOf s b) (Control (b % 8) (displayOf b)) (Start (pointerOf s b))
-    (omega arith) (setting-sound s b) (omega arith) (pointer-sound s b)
+pub command-carries : (s : Sizes) (b : ℕ) → Carries s (commandOf s b)
+command-carries s b =
+    of4-all (Carries s) (Mode (modeOf s b)) (settingOf s b) (Control (b % 8) (displayOf b)) (Start (pointerOf s b))
+    (omega arith) (setting-carries s b) (omega arith) (pointer-carries s b)
     (b / 64)
 
 module _ (s : Sizes) (p : Proper s) where
@@ -124,7 +124,7 @@ module _ (s : Sizes) (p : Proper s) where
   setting-fits : (i : Stepping) → InRange same? (range s) (sets stepping (steps i) (sets readCount 0 (then Open)))
   setting-fits i = sets-fit stepping (steps i) _ (steps-fit i) (sets-fit readCount 0 _ (omega arith) (then-fits Open))
 
-  commanded-fits : (m : Command) → Sound s m → Fine (commanded m)
+  commanded-fits : (m : Command) → Carries s m → Fine (commanded m)
   commanded-fits (Mode m) h = λ old _. mode-fits m old h
   commanded-fits Test h =
       every _ (λ i. tt) tt tt tt tt tt tt tt (λ i. omega arith) (omega arith) tt (omega arith)
@@ -153,7 +153,7 @@ module _ (s : Sizes) (p : Proper s) where
   byte-fits b q h =
       of4-all Fine _ _ _ _
       kept
-      (commanded-fits (commandOf s b) (command-sound s b))
+      (commanded-fits (commandOf s b) (command-carries s b))
       (λ d _. of4-all Fine _ _ _ _ (λ a _. stored-fits b a h) (sets-fit led (b % 16) _ (omega arith) kept) kept kept d)
       kept
       q

@@ -29,7 +29,8 @@ switchesSent n = whether (eqb n 0) (says (copy switches)) (says (value notDriven
 
 -- Open, by the data mode.
 abbrev pub openSent : Sizes → ℕ → Rule Fact (Unit {0})
-openSent s = of4 (says (value notDriven)) (says (value notDriven)) (look readCount (keySent s)) (look readCount switchesSent)
+openSent s =
+    of4 (says (value notDriven)) (says (value notDriven)) (look readCount (keySent s)) (look readCount switchesSent)
 
 -- By the position.
 abbrev pub sentAt : Sizes → ℕ → Rule Fact (Unit {0})

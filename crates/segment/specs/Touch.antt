@@ -19,7 +19,7 @@ use Rattle.segment.specs.declared.command.Command.{Command}
 use Rattle.segment.specs.declared.command.Command.the-variants.{Mode, Test, Setting, AnySetting, Control, Start}
 use Rattle.segment.specs.Fact.{Fact, same?, cell, address, dataMode, stepping, mode, dimming, display, led, key, switches, readCount, position}
 use Rattle.segment.specs.Value.{pointer, data-mode, steps, shows, at-position}
-use Rattle.segment.specs.Command.{commandOf}
+use Rattle.segment.specs.Command.{commandOf, Defined}
 use Rattle.segment.specs.Move.{Forms, sets, then, nothing, toMode, commanded, after, storedAt, stored, written, byteIn, move}
 
 -- The strobe and unfinished bits leave every fact alone but the position.
@@ -67,15 +67,6 @@ byte-in-leaves-inputs s b =
     (λ d. of4-all LeavesInputs _ _ _ _ (inputs-looked address (stored s b) (inputs-stored s b)) (λ i. refl, refl) (λ i. refl, refl) (λ i. refl, refl) d))
     (λ i. refl, refl)
     q)
-
--- An undefined command leaves facts as anything: test mode, and data setting 11 on PT6315.
-abbrev pub Defined : Command → Type 0
-Defined (Mode m) = Unit
-Defined Test = ⊥
-Defined (Setting d i) = Unit
-Defined (AnySetting i) = ⊥
-Defined (Control d o) = Unit
-Defined (Start a) = Unit
 
 -- Power and a gap leave facts as anything, and so may a byte that would be an undefined command.
 abbrev pub Settled : Sizes → Event → Type 0

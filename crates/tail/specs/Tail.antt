@@ -1,4 +1,5 @@
--- The tail: the part of a recording behind its last gap record, the whole where there is no gap, the empty part at the front where refused.
+-- The tail: the part of a recording behind its last gap record, the whole where there is no gap, the empty part at
+-- the front where refused.
 use Prim.Native.Nat.{ℕ, _-_}
 use mathlib.Core.List.{List}
 use lib.ListN.{length, drop, take}
@@ -23,9 +24,14 @@ spot n = record { 0 = n }
 abbrev pub none : Answer → Found
 none a = record { answer = a; start = spot 0; end = spot 0 }
 
--- By how the records end: done at the recording's length, behind the last gap; else 5, 6, 7 or 8 at the record's first byte.
+-- By how the records end: done at the recording's length, behind the last gap; else 5, 6, 7 or 8 at the record's
+-- first byte.
 abbrev pub foundBy : Part → List ℕ → Ending → Found
-foundBy p l Done = record { answer = A.Done (spot (length l)); start = spot (behindGap 0 (walked p l)); end = spot (length l) }
+foundBy p l Done = record {
+  answer = A.Done (spot (length l));
+  start = spot (behindGap 0 (walked p l));
+  end = spot (length l);
+}
 foundBy p l (Stops r at) = none (refusedAs r at)
 
 abbrev pub foundIn : Part → List ℕ → Found

@@ -15,5 +15,6 @@ Left Done P Q = P
 Left (Stops r at) P Q = Q
 
 -- The knowledge r is what the events, in turn, make of k.
-abbrev pub InTurn : {F K : Type 0} → (K → F → Standing) → Discrete F → (F → ℕ) → (Event → Rule F F) → List Event → K → K → Type 0
+abbrev pub InTurn : {F K : Type 0} → (K → F → Standing) → Discrete F → (F → ℕ) → (Event → Rule F F)
+    → List Event → K → K → Type 0
 InTurn {F} view same? range move es k r = (f : F) → view r f ≡ inTurn same? range (map move es) (view k) f

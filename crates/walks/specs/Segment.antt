@@ -16,4 +16,5 @@ use Rattle.walks.specs.Left.{Left, InTurn}
 -- The records from the front, each by 5, 6, 7, 8; the events in turn, or the knowledge as it was.
 pub record Walks (part : Part) (p : Family) (k : Knowledge) (l : List ℕ) (r : SegmentWalked) : Type 0 where
   pub ended : r .ending ≡ endOf (walked part l)
-  pub left : Left (r .ending) (InTurn kview same? (range (sizes p)) (move (sizes p)) (events (walked part l)) k (r .k)) (r .k ≡ k)
+  pub left : Left (r .ending)
+      (InTurn kview same? (range (sizes p)) (move (sizes p)) (events (walked part l)) k (r .k)) (r .k ≡ k)

@@ -1,6 +1,7 @@
--- Which byte is a command, read off the events alone, is which byte a chip takes as one. The argument: the strobe, power and every byte say whether the
--- position is first byte afterwards, and the other events leave the position alone; so along the moves of any chip the position is first byte exactly
--- where the events say that a command is awaited.
+-- Which byte is a command, read off the events alone, is which byte a chip takes as one. The argument: the strobe,
+-- power and every byte say whether the position is first byte afterwards, and the other events leave the position
+-- alone; so along the moves of any chip the position is first byte exactly where the events say that a command is
+-- awaited.
 use Prim.Native.Nat.{ℕ}
 use native.Mathlib.Omega.{arith}
 use mathlib.Core.Path.{_≡_, refl, sym, ap, _∙_, subst}

@@ -1,5 +1,5 @@
--- Demand 3's last sentence for PT6302. The argument is that for PT6312 and PT6315: every rule looks only at settings and the position, and, with no gap
--- and no undefined command, lets only memory become anything.
+-- Demand 3's last sentence for PT6302. The argument is that for PT6312 and PT6315: every rule looks only at settings
+-- and the position, and, with no gap and no undefined command, lets only memory become anything.
 use Prim.Native.Nat.{ℕ, zero, suc, _+_, _*_, _%_}
 use native.Mathlib.Omega.{arith}
 use mathlib.Core.Path.{_≡_, refl, ap, _∙_}
@@ -20,9 +20,8 @@ use Rattle.character.specs.declared.chip.Position.{Position}
 use Rattle.character.specs.declared.chip.Position.the-variants.{Idle, First, Dcram as inDcram, Cgram as inCgram, Adram as inAdram, Ignoring}
 use Rattle.character.specs.Fact.{Fact, same?, range, dcram, cgram, adram, dcramAt, cgramAt, adramAt, column, port, duty, digits, lights, position, Sort, memory, setting, transfer, sort}
 use Rattle.character.specs.Value.{lit, at-position}
-use Rattle.character.specs.Command.{commandOf}
+use Rattle.character.specs.Command.{commandOf, Defined}
 use Rattle.character.specs.Move.{Forms, sets, then, commanded, shown, drawn, marked, byteIn, move}
-use Rattle.character.specs.Touch.{Defined}
 use Rattle.character.specs.Laws.{every}
 use Rattle.whole.specs.Sentence.{isGap, awaits}
 use Rattle.whole.specs.Clear.{AllOwn, Clear, keep-own, change-own}

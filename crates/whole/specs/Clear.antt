@@ -1,6 +1,7 @@
--- A rule, where all that it looks at is known. The argument: it then goes one way, with every chip that fits, and comes to one form for each fact.
--- If each of these forms is a value, what the fact itself was, or anything, a knowledge loses nothing by it: a chip that fits the new knowledge
--- is a result of one that fitted the old, namely of the one that has the same wherever the rule keeps a fact, and anything that fits elsewhere.
+-- A rule, where all that it looks at is known. The argument: it then goes one way, with every chip that fits, and
+-- comes to one form for each fact. If each of these forms is a value, what the fact itself was, or anything, a
+-- knowledge loses nothing by it: a chip that fits the new knowledge is a result of one that fitted the old, namely of
+-- the one that has the same wherever the rule keeps a fact, and anything that fits elsewhere.
 use Prim.Native.Nat.{ℕ, _<_, _≤_}
 use native.Mathlib.Omega.{arith}
 use mathlib.Core.Path.{_≡_, refl, sym, ap, _∙_, subst, subst⁻¹}

@@ -1,6 +1,7 @@
--- Demand 3's last sentence for every part. The argument: a good start has a chip that fits it. Read off the events alone or taken by that chip, the commands
--- are the same (`Awaits`), and so with no gap and no undefined command every event is clear: it looks at settings and the position alone, which stay known
--- (`Segment`, `Character`). Then what is known at the end is what all fitting chips end with (`Whole`).
+-- Demand 3's last sentence for every part. The argument: a good start has a chip that fits it. Read off the events
+-- alone or taken by that chip, the commands are the same (`Awaits`), and so with no gap and no undefined command
+-- every event is clear: it looks at settings and the position alone, which stay known (`Segment`, `Character`). Then
+-- what is known at the end is what all fitting chips end with (`Whole`).
 use Prim.Native.Nat.{ℕ, _<_}
 use native.Mathlib.Omega.{arith}
 use mathlib.Core.Path.{_≡_, refl, ap}

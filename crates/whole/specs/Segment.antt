@@ -1,6 +1,7 @@
--- Demand 3's last sentence for PT6312 and PT6315, over the numbers in which they differ. The argument: every rule looks only at settings and the position,
--- and gives each fact a value, or leaves it as it was, or lets it be anything. Only memory, keys and switches become anything, unless there is a gap or an
--- undefined command; so settings and position stay known, and every event is clear.
+-- Demand 3's last sentence for PT6312 and PT6315, over the numbers in which they differ. The argument: every rule
+-- looks only at settings and the position, and gives each fact a value, or leaves it as it was, or lets it be
+-- anything. Only memory, keys and switches become anything, unless there is a gap or an undefined command; so
+-- settings and position stay known, and every event is clear.
 use Prim.Native.Nat.{ℕ, zero, suc, _+_, _%_, min}
 use native.Mathlib.Omega.{arith}
 use mathlib.Core.Path.{_≡_, refl, ap, _∙_}
@@ -23,9 +24,9 @@ use Rattle.segment.specs.declared.command.Command.{Command}
 use Rattle.segment.specs.declared.command.Command.the-variants.{Mode, Test, Setting, AnySetting, Control, Start}
 use Rattle.segment.specs.Fact.{Fact, cell, address, dataMode, stepping, mode, dimming, display, led, key, switches, readCount, position, same?, range, Sort, memory, setting, input, transfer, sort}
 use Rattle.segment.specs.Value.{pointer, data-mode, steps, shows, at-position}
-use Rattle.segment.specs.Command.{commandOf}
+use Rattle.segment.specs.Command.{commandOf, Defined}
 use Rattle.segment.specs.Move.{Forms, sets, then, commanded, after, stored, written, byteIn, counted, move}
-use Rattle.segment.specs.Touch.{Defined, byte-out-leaves}
+use Rattle.segment.specs.Touch.{byte-out-leaves}
 use Rattle.segment.specs.Laws.{every}
 use Rattle.whole.specs.Sentence.{isGap, awaits}
 use Rattle.whole.specs.Clear.{Own, AllOwn, Clear, keep-own, change-own}

@@ -1,5 +1,6 @@
--- Demand 3's last sentence, word by word: "Where the start knows all settings and the transfer position, and the recording has no gap and no undefined
--- command, a memory cell is known at the end exactly when every fitting chip ends with the same content there."
+-- Demand 3's last sentence, word by word: "Where the start knows all settings and the transfer position, and the
+-- recording has no gap and no undefined command, a memory cell is known at the end exactly when every fitting chip
+-- ends with the same content there."
 use Prim.Native.Nat.{ℕ}
 use mathlib.Core.Path.{_≡_}
 use mathlib.Core.Bool.{Bool, true, false, _||_}
@@ -19,12 +20,10 @@ use Rattle.segment.specs.Family.{sizes}
 use Rattle.segment.specs.Fact as Segment
 use Rattle.segment.specs.Value as SegmentValue
 use Rattle.segment.specs.Command as SegmentCommand
-use Rattle.segment.specs.Touch as SegmentTouch
 use Rattle.character.specs.declared.chip.Position.the-variants as CharacterPosition
 use Rattle.character.specs.Fact as Character
 use Rattle.character.specs.Value as CharacterValue
 use Rattle.character.specs.Command as CharacterCommand
-use Rattle.character.specs.Touch as CharacterTouch
 use Rattle.parts.specs.Facts.{Fact}
 
 -- 1. "The start knows all settings and the transfer position."
@@ -66,8 +65,8 @@ hasGap (e ∷ es) = isGap e || hasGap es
 
 -- 3. "And no undefined command."
 
--- A byte is a command if it is the first behind a fall of the strobe. Whether the next byte in would be one, after an event, by whether it would
--- have been one before.
+-- A byte is a command if it is the first behind a fall of the strobe. Whether the next byte in would be one, after an
+-- event, by whether it would have been one before.
 abbrev pub awaits : Event → Bool → Bool
 awaits Power first = false
 awaits Falls first = true
@@ -79,11 +78,12 @@ awaits (Keys k0 k1 k2 k3) first = first
 awaits (Switches v) first = first
 awaits ByteOut first = first
 
--- The byte is a defined command of the part: not test mode, not data setting 11 on PT6315, and none that paper 01 calls undefined on PT6302.
+-- The byte is a defined command of the part: not test mode, not data setting 11 on PT6315, and none that paper 01
+-- calls undefined on PT6302.
 abbrev pub DefinedOn : Part → ℕ → Type 0
-DefinedOn Pt6302 b = CharacterTouch.Defined (CharacterCommand.commandOf b)
-DefinedOn Pt6312 b = SegmentTouch.Defined (SegmentCommand.commandOf (sizes OfFamily.Pt6312) b)
-DefinedOn Pt6315 b = SegmentTouch.Defined (SegmentCommand.commandOf (sizes OfFamily.Pt6315) b)
+DefinedOn Pt6302 b = CharacterCommand.Defined (CharacterCommand.commandOf b)
+DefinedOn Pt6312 b = SegmentCommand.Defined (SegmentCommand.commandOf (sizes OfFamily.Pt6312) b)
+DefinedOn Pt6315 b = SegmentCommand.Defined (SegmentCommand.commandOf (sizes OfFamily.Pt6315) b)
 
 -- The event brings no undefined command, where a byte would be a command.
 abbrev pub BringsDefined : (ℕ → Type 0) → Event → Type 0
@@ -119,6 +119,7 @@ IsMemory Pt6302 f = Character.sort f ≡ Character.memory
 IsMemory Pt6312 f = Segment.sort f ≡ Segment.memory
 IsMemory Pt6315 f = Segment.sort f ≡ Segment.memory
 
--- 5. "Every fitting chip ends with the same content": every chip that fits k, moved by the rules one after the other, ends with the value v at f.
+-- 5. "Every fitting chip ends with the same content": every chip that fits k, moved by the rules one after the other,
+-- ends with the value v at f.
 abbrev pub AllEnd : {F : Type 0} → (F → ℕ) → List (Rule F F) → (F → Standing) → F → ℕ → Type 0
 AllEnd {F} range rules k f v = (c : F → ℕ) → Good range c → Fits k c → (x : F → ℕ) → Ends range rules c x → x f ≡ v

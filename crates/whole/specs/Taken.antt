@@ -1,15 +1,17 @@
--- Events as a chip takes them. A byte is a command only where the chip's position is first byte; so what a recording asks of a chip goes along its moves.
--- Where the position is known, what holds along one fitting chip holds along the knowledge.
+-- Events as a chip takes them. A byte is a command only where the chip's position is first byte; so what a recording
+-- asks of a chip goes along its moves. Where the position is known, what holds along one fitting chip holds along the
+-- knowledge.
 use Prim.Native.Nat.{ℕ, _≤_}
 use mathlib.Core.List.{List, [], _∷_}
 use Rattle.rules.specs.Rule.{Rule, run}
 use Rattle.rules.specs.Range.{Good, Ranged}
 use Rattle.rules.specs.Turn.{Result}
+use Rattle.rules.specs.Results.{result-good}
 use Rattle.knowing.specs.Standing.{Standing, known, Fits, Sound}
 use Rattle.knowing.specs.Know.{know}
 use Rattle.knowing.specs.Moves.{some, allowed, still-fits}
 use Rattle.whole.specs.Usual.{Each, Throughout}
-use Rattle.whole.specs.Whole.{knowing-sound, result-good}
+use Rattle.whole.specs.Whole.{knowing-sound}
 
 -- Everything is known of the chip c.
 abbrev pub seen : {F : Type 0} → (F → ℕ) → F → Standing
@@ -28,6 +30,6 @@ module _ {E F : Type 0} (same? : Discrete F) (range : F → ℕ) (two : (f : F) 
       let made : Result range (move e) c (λ f. some (run (move e) c f)) = λ f. allowed (range f) (run (move e) c f) (two f) in (
         lower e k c fits (t .0),
         takes-throughout es (know same? range (move e) k) (λ f. some (run (move e) c f)) (b .1) (knowing-sound same? range two move Carries ranged e k (b .0) s)
-            (result-good same? range two move Carries ranged e (b .0) c (λ f. some (run (move e) c f)) good made) (still-fits same? range two (move e) k s c good fits (λ f. some (run (move e) c f)) made)
+            (result-good range (move e) c (λ f. some (run (move e) c f)) (ranged e (b .0)) good made) (still-fits same? range two (move e) k s c good fits (λ f. some (run (move e) c f)) made)
             (t .1 (λ f. some (run (move e) c f)) made),
       )

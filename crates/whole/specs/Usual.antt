@@ -1,5 +1,5 @@
--- Recordings with no gap and no undefined command, for any part. A byte is a command only as the first of a transfer, so this goes along the events
--- with what is known of the position.
+-- Recordings with no gap and no undefined command, for any part. A byte is a command only as the first of a transfer,
+-- so this goes along the events with what is known of the position.
 use Prim.Native.Nat.{ℕ}
 use mathlib.Core.Path.{_≡_, ap, subst}
 use mathlib.Core.List.{List, [], _∷_}
@@ -9,8 +9,8 @@ use Rattle.knowing.specs.Know.{know}
 use Rattle.terms.specs.declared.Event.{Event}
 use Rattle.terms.specs.declared.Event.the-variants.{Power, Falls, ByteIn, Rises, Gap, Unfinished, Keys, Switches, ByteOut}
 
--- The event is no gap and no undefined command, where s is what is known of the position, `first` the position of a first byte, and `Defined` says
--- which bytes are defined commands.
+-- The event is no gap and no undefined command, where s is what is known of the position, `first` the position of a
+-- first byte, and `Defined` says which bytes are defined commands.
 abbrev pub UsualAt : ℕ → (ℕ → Type 0) → Event → Standing → Type 0
 UsualAt first Defined Power s = Unit
 UsualAt first Defined Falls s = Unit

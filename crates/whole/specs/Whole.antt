@@ -1,14 +1,16 @@
--- Events in turn, where each is clear. The argument: the chips that fit the knowledge at the end are exactly those to which the events may lead a
--- chip that fitted at the start. One way round a fitting chip goes on fitting; the other way each fitting chip comes from a fitting one, event by
--- event from the last to the first. So what all ends have in common is what all chips that fit at the end have in common: the known values, since
--- a fact that is not known may as well be 0 as 1.
+-- Events in turn, where each is clear. The argument: the chips that fit the knowledge at the end are exactly those to
+-- which the events may lead a chip that fitted at the start. One way round a fitting chip goes on fitting; the other
+-- way each fitting chip comes from a fitting one, event by event from the last to the first. So what all ends have in
+-- common is what all chips that fit at the end have in common: the known values, since a fact that is not known may
+-- as well be 0 as 1.
 use Prim.Native.Nat.{ℕ, _<_, _≤_}
 use native.Mathlib.Omega.{arith}
 use mathlib.Core.Path.{_≡_, refl, sym, ap, _∙_, fun-ext, subst, subst⁻¹}
 use mathlib.Core.List.{List, [], _∷_, map}
-use Rattle.rules.specs.Rule.{Rule, Outcome, becomes, anything, run}
-use Rattle.rules.specs.Range.{Good, Ranged, Below, keeps-range}
-use Rattle.rules.specs.Turn.{Allows, Result, Ends}
+use Rattle.rules.specs.Rule.{Rule}
+use Rattle.rules.specs.Range.{Good, Ranged}
+use Rattle.rules.specs.Turn.{Ends}
+use Rattle.rules.specs.Results.{result-good}
 use Rattle.knowing.specs.Standing.{Standing, known, unknown, Agrees, Fits, Sound}
 use Rattle.knowing.specs.Know.{know}
 use Rattle.knowing.specs.Fill.{fill, filled, filled-fits, filled-good}
@@ -25,10 +27,6 @@ use Rattle.whole.specs.Usual.{Each, Throughout}
 abbrev pub ExactAtEnd : {F : Type 0} → Discrete F → (F → ℕ) → List (Rule F F) → (F → Standing) → F → Type 0
 ExactAtEnd same? range rules k f =
     (v : ℕ) → (inTurn same? range rules k f ≡ known v → AllEnd range rules k f v) × (AllEnd range rules k f v → inTurn same? range rules k f ≡ known v)
-
-allowed-below : (n w : ℕ) (o : Outcome) → Below n o → Allows n o w → w < n
-allowed-below n w (becomes v) h a = subst⁻¹ (λ (u : ℕ). u < n) a h
-allowed-below n w anything h a = a
 
 agreed : (s : Standing) (v w : ℕ) → s ≡ known v → Agrees s w → w ≡ v
 agreed s v w e a = subst (λ (t : Standing). Agrees t w) e a
@@ -64,9 +62,6 @@ module _ {E F : Type 0} (same? : Discrete F) (range : F → ℕ) (two : (f : F) 
   turn-sound [] k b s = s
   turn-sound (e ∷ es) k b s = turn-sound es (know same? range (move e) k) (b .1) (knowing-sound e k (b .0) s)
 
-  pub result-good : (e : E) → Carries e → (c y : F → ℕ) → Good range c → Result range (move e) c y → Good range y
-  result-good e b c y good made f = allowed-below (range f) (y f) (run (move e) c f) (keeps-range range range (move e) c good (ranged e b) f) (made f)
-
   -- Events in turn make a chain of knowledges, each exact from the one before.
   pub turn-chain : (es : List E) (k : F → Standing) → Each Carries es → Sound range k → Chain range (map move es) k (inTurn same? range (map move es) k)
   turn-chain [] k b s = λ f. refl
@@ -89,7 +84,7 @@ module _ {E F : Type 0} (same? : Discrete F) (range : F → ℕ) (two : (f : F) 
       → Ends range (map move es) c x → Fits (inTurn same? range (map move es) k) x
   ends-fit [] k b s c x good fits h = λ f. subst⁻¹ (λ (w : ℕ). Agrees (k f) w) (h f) (fits f)
   ends-fit (e ∷ es) k b s c x good fits h =
-      ends-fit es (know same? range (move e) k) (b .1) (knowing-sound e k (b .0) s) (h .0) x (result-good e (b .0) c (h .0) good (h .1))
+      ends-fit es (know same? range (move e) k) (b .1) (knowing-sound e k (b .0) s) (h .0) x (result-good range (move e) c (h .0) (ranged e (b .0)) good (h .1))
       (still-fits same? range two (move e) k s c good fits (h .0) (h .1)) (h .2)
 
   -- Where an event is usual at a knowledge, its rule is clear there.

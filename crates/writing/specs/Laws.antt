@@ -1,4 +1,5 @@
--- Laws of writing: texts written one behind the other are one text, and a text with room for all of it stands at the front.
+-- Laws of writing: texts written one behind the other are one text, and a text with room for all of it stands at the
+-- front.
 use Prim.Native.Nat.{ℕ, suc, _+_, _<_, _≤_}
 use native.Mathlib.Numerals.{add-one}
 use native.Mathlib.Omega.{arith, min-cases}

@@ -1,4 +1,5 @@
--- Laws of storing a row of bytes: two rows one behind the other are one, and a row at the front stands there with the rest as it was.
+-- Laws of storing a row of bytes: two rows one behind the other are one, and a row at the front stands there with the
+-- rest as it was.
 use Prim.Native.Nat.{ℕ, suc, _+_, _≤_}
 use native.Mathlib.Omega.{arith}
 use mathlib.Core.Path.{_≡_, refl, ap, _∙_}

@@ -1,4 +1,5 @@
--- What it is to write a text into lent memory, from a place on, as far as there is room: every byte afterwards, and the place behind the text.
+-- What it is to write a text into lent memory, from a place on, as far as there is room: every byte afterwards, and
+-- the place behind the text.
 use Prim.Native.Nat.{ℕ, _+_, _-_, min}
 use mathlib.Core.Path.{_≡_}
 use mathlib.Core.List.{List}

@@ -1,0 +1,76 @@
+-- The premises of demand 3's last sentence can be met: power makes such a start of any knowledge, and the strobes of the
+-- examples P1, P4 and P11 are such recordings. The argument: power sets every setting and the position; the rest computes.
+use Prim.Native.Nat.{ℕ}
+use native.Mathlib.Omega.{arith}
+use mathlib.Core.Path.{_≡_, refl, sym}
+use mathlib.Core.Bool.{true, false, true≢false}
+use mathlib.Core.List.{List, [], _∷_}
+use Rattle.knowing.specs.Standing.{Standing}
+use Rattle.knowing.specs.Know.{know}
+use Rattle.terms.specs.declared.Event.the-variants.{Power}
+use Rattle.terms.specs.declared.Part.{Part}
+use Rattle.terms.specs.declared.Part.the-variants.{Pt6302, Pt6312, Pt6315}
+use Rattle.segment.specs.declared.chip.Family.{Family}
+use Rattle.segment.specs.declared.chip.Family.the-variants as OfFamily
+use Rattle.segment.specs.Family.{sizes}
+use Rattle.segment.specs.Fact as Segment
+use Rattle.segment.specs.Move as SegmentMove
+use Rattle.segment.specs.Laws as SegmentLaws
+use Rattle.character.specs.Fact as Character
+use Rattle.character.specs.Laws as CharacterLaws
+use Rattle.parts.specs.Facts.{Fact, same?, range, move}
+use Rattle.whole.specs.Sentence.{IsKnown, StartKnows, hasGap, DefinedOn, NoUndefined}
+use Rattle.demand.specs.Recording.{eventsFrom}
+
+no-segment-setting : Segment.memory ≡ Segment.setting → ⊥
+no-segment-setting e =
+    let z : _≡_ {A = ℕ} 0 1 = cc in
+    omega arith
+
+no-input-setting : Segment.input ≡ Segment.setting → ⊥
+no-input-setting e =
+    let z : _≡_ {A = ℕ} 0 1 = cc in
+    omega arith
+
+no-character-setting : Character.memory ≡ Character.setting → ⊥
+no-character-setting e =
+    let z : _≡_ {A = ℕ} 0 1 = cc in
+    omega arith
+
+powered-segment : (q : Family) (k : Segment.Fact → Standing) (f : Segment.Fact) → Segment.sort f ≡ Segment.setting
+    → IsKnown (know Segment.same? (Segment.range (sizes q)) (SegmentMove.move (sizes q) Power) k f)
+powered-segment q k =
+    SegmentLaws.every _ (λ i e. absurd (no-segment-setting e)) (λ e. (_, refl)) (λ e. (_, refl)) (λ e. (_, refl))
+    (λ e. (_, refl)) (λ e. (_, refl)) (λ e. (_, refl)) (λ e. (_, refl))
+    (λ i e. absurd (no-input-setting e)) (λ e. absurd (no-input-setting e)) (λ e. (_, refl)) (λ e. (_, refl))
+
+-- After power, whatever was known before, the settings and the position are known.
+pub powered-knows : (p : Part) (k : Fact p → Standing) → StartKnows p (know (same? p) (range p) (move p Power) k)
+powered-knows Pt6302 k = record {
+  settings =
+      CharacterLaws.every _ (λ i e. absurd (no-character-setting e)) (λ i e. absurd (no-character-setting e))
+      (λ i e. absurd (no-character-setting e)) (λ e. (_, refl)) (λ e. (_, refl)) (λ e. (_, refl)) (λ e. (_, refl))
+      (λ e. (_, refl)) (λ e. (_, refl)) (λ e. (_, refl)) (λ e. (_, refl)) (λ e. (_, refl));
+  at-position = (_, refl);
+}
+powered-knows Pt6312 k = record { settings = powered-segment OfFamily.Pt6312 k; at-position = (_, refl) }
+powered-knows Pt6315 k = record { settings = powered-segment OfFamily.Pt6315 k; at-position = (_, refl) }
+
+-- No gap and no undefined command, where the strobe is high at first.
+abbrev Usual : Part → List ℕ → Type 0
+Usual p l = (hasGap (eventsFrom p 0 l) ≡ false) × NoUndefined (DefinedOn p) false (eventsFrom p 0 l)
+
+-- A byte that is not the first of its strobe is no command.
+later : {D : Type 0} → false ≡ true → D
+later e = absurd (true≢false (sym e))
+
+pub p1-usual : Usual Pt6312 (0x02 ∷ 0x03 ∷ 0xC0 ∷ 0x03 ∷ 0x5A ∷ 0x04 ∷ [])
+unfolding sizes
+p1-usual = (refl, (λ _. tt, (λ _. tt, (later, (λ _. tt, tt)))))
+
+pub p4-usual : Usual Pt6315 (0x02 ∷ 0x03 ∷ 0xE3 ∷ 0x03 ∷ 0x7F ∷ 0x04 ∷ [])
+unfolding sizes
+p4-usual = (refl, (λ _. tt, (λ _. tt, (later, (λ _. tt, tt)))))
+
+pub p11-usual : Usual Pt6302 (0x02 ∷ 0x03 ∷ 0x1F ∷ 0x03 ∷ 0x41 ∷ 0x03 ∷ 0x42 ∷ 0x04 ∷ [])
+p11-usual = (refl, (λ _. tt, (λ _. tt, (later, (later, (λ _. tt, tt))))))
