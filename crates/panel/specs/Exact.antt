@@ -13,6 +13,7 @@ use Rattle.knowing.specs.Event.{event-exact, event-fits, event-sound}
 use Rattle.knowing.specs.Exact.{know-exact}
 use Rattle.terms.specs.declared.Event.{Event}
 use Rattle.terms.specs.declared.Part.{Part}
+use Rattle.terms.specs.declared.Part.the-variants.{Pt6302, Pt6312, Pt6315}
 use Rattle.terms.specs.declared.PartRead.the-variants.{Is}
 use Rattle.terms.specs.Event.{Bytes, recorded}
 use Rattle.terms.specs.Part.{partOf}
@@ -26,6 +27,7 @@ use Rattle.recording.specs.Record as Record
 use Rattle.recording.specs.Record.{front}
 use Rattle.recording.specs.Again.{read-again}
 use Rattle.segment.specs.declared.chip.Family.{Family}
+use Rattle.segment.specs.declared.chip.Family.the-variants as OfFamily
 use Rattle.segment.specs.Family.{sizes}
 use Rattle.segment.specs.Fact as Segment
 use Rattle.segment.specs.Range as SegmentRange
@@ -36,9 +38,9 @@ use Rattle.panel.specs.declared.events.Heard.{Heard}
 use Rattle.panel.specs.declared.reports.Report.{Report}
 use Rattle.panel.specs.View.{knownOf, good, bad}
 use Rattle.panel.specs.Event.{number, EventDone, AsRecord, HearsPart, Hears}
-use Rattle.panel.specs.Laws.{hears-as, record-as}
+use Rattle.panel.specs.Laws.{hears-as, record-as, tells-as}
 use Rattle.panel.specs.Report as Told
-use Rattle.panel.specs.Report.{TellsSegment, says}
+use Rattle.panel.specs.Report.{Tells, TellsPart, TellsSegment, SegmentExact, ReportExact, says}
 
 never-0 : (x : Refusal) → Record.number x ≡ 0 → ⊥
 never-0 Refusals.Unlisted e = omega arith
@@ -94,10 +96,20 @@ module _ (b : ℕ) (p : Part) (named : partOf b ≡ Is p) (e : Event) (k : Panel
         event-sound (knownOf p) (same? p) (range p) (two p) (move p e) k (r .panel) (done .1 .after .known) (ranged p e b)
         (done .0)
 
--- The report is the byte, or not driven, exactly if all fitting chips agree on it, else unknown. There are 256 bytes, and not driven.
-pub report-exact : (p : Family) (k : Panel) (r : Report) → TellsSegment p k r → Told.number r ≡ 0
-    → Exact (Segment.range (sizes p)) (λ _. 257) (sent (sizes p)) (kview (k .segment)) tt (says r)
-report-exact p k r (good sound told) zero =
-    subst⁻¹ (λ (s : Standing). Exact (Segment.range (sizes p)) (λ _. 257) (sent (sizes p)) (kview (k .segment)) tt s) (told .told)
-    (know-exact Segment.same? (Segment.range (sizes p)) (SegmentRange.two p) (λ _. 257) (λ _. omega arith) (sent (sizes p)) (kview (k .segment)) sound tt)
-report-exact p k r (bad n told) zero = absurd (let x = sym (told .numbered) ∙ zero in omega (arith, x))
+segment-report : (f : Family) (k : Panel) (r : Report) → TellsSegment f k r → Told.number r ≡ 0 → SegmentExact f k r
+segment-report f k r (good sound told) zero =
+    subst⁻¹ (λ (s : Standing). Exact (Segment.range (sizes f)) (λ _. 257) (sent (sizes f)) (kview (k .segment)) tt s)
+    (told .told)
+    (know-exact Segment.same? (Segment.range (sizes f)) (SegmentRange.two f) (λ _. 257) (λ _. omega arith)
+    (sent (sizes f)) (kview (k .segment)) sound tt)
+segment-report f k r (bad n told) zero = absurd (let x = sym (told .numbered) ∙ zero in omega (arith, x))
+
+-- The report of a part that sends bytes is exact, and no other is given number 0.
+pub report-exact : (b : ℕ) (p : Part) → partOf b ≡ Is p → (k : Panel) (r : Report) → Tells (partOf b) k r
+    → Told.number r ≡ 0 → ReportExact p k r
+report-exact b p named k r met zero = by p (tells-as (partOf b) (Is p) k r named met)
+  where
+    by : (q : Part) → TellsPart q k r → ReportExact q k r
+    by Pt6302 told = let x = sym (told .numbered) ∙ zero in omega (arith, x)
+    by Pt6312 told = segment-report OfFamily.Pt6312 k r told zero
+    by Pt6315 told = segment-report OfFamily.Pt6315 k r told zero
