@@ -1,7 +1,10 @@
--- Demand 3 for one event, and the report, in the paper's words: what `hear` and `next_sent` promise is exactly what all chips that fit agree on.
+-- Demand 3 for one event, and the report, in the paper's words and as a caller has them: of the part byte, the promise of
+-- `hear` or `next_sent`, and number 0. The argument: number 0 is given only where the knowledge is in range and the event
+-- is heard, and then the answer is what the event's rule makes of the knowledge, which `knowing` shows to be exact.
 use Prim.Native.Nat.{ℕ}
 use native.Mathlib.Omega.{arith}
 use mathlib.Core.Path.{_≡_, sym, _∙_, subst⁻¹}
+use mathlib.Core.List.{List}
 use Rattle.rules.specs.Turn.{Result}
 use Rattle.rules.specs.Range.{Good}
 use Rattle.knowing.specs.Standing.{Standing, known, Fits, Sound, Exact}
@@ -9,76 +12,104 @@ use Rattle.knowing.specs.Moves.{AllHave}
 use Rattle.knowing.specs.Event.{event-exact, event-fits, event-sound}
 use Rattle.knowing.specs.Exact.{know-exact}
 use Rattle.terms.specs.declared.Event.{Event}
-use Rattle.terms.specs.Event.{Bytes}
+use Rattle.terms.specs.declared.Part.{Part}
+use Rattle.terms.specs.declared.Part.the-variants.{Pt6302, Pt6312, Pt6315}
+use Rattle.terms.specs.declared.PartRead.the-variants.{Is}
+use Rattle.terms.specs.Event.{Bytes, recorded}
+use Rattle.terms.specs.Part.{partOf}
+use Rattle.parts.specs.Facts.{Fact, same?, range, move}
+use Rattle.parts.specs.Laws.{two, ranged}
+use Rattle.recording.specs.declared.read.Read.{Read}
+use Rattle.recording.specs.declared.read.Read.the-variants as Reads
+use Rattle.recording.specs.declared.read.Refusal.{Refusal}
+use Rattle.recording.specs.declared.read.Refusal.the-variants as Refusals
+use Rattle.recording.specs.Record as Record
+use Rattle.recording.specs.Record.{front}
+use Rattle.recording.specs.Again.{read-again}
 use Rattle.segment.specs.declared.chip.Family.{Family}
+use Rattle.segment.specs.declared.chip.Family.the-variants as OfFamily
 use Rattle.segment.specs.Family.{sizes}
-use Rattle.segment.specs.Fact as SegmentFact
-use Rattle.segment.specs.Move as SegmentMove
+use Rattle.segment.specs.Fact as Segment
 use Rattle.segment.specs.Range as SegmentRange
 use Rattle.segment.specs.Sent.{sent}
-use Rattle.segment_knowledge.specs.View as OfSegment
-use Rattle.character.specs.Fact as CharacterFact
-use Rattle.character.specs.Move as CharacterMove
-use Rattle.character.specs.Range as CharacterRange
-use Rattle.character_knowledge.specs.View as OfCharacter
+use Rattle.segment_knowledge.specs.View.{kview}
 use Rattle.panel.specs.declared.knowledge.Panel.{Panel}
 use Rattle.panel.specs.declared.events.Heard.{Heard}
 use Rattle.panel.specs.declared.reports.Report.{Report}
-use Rattle.panel.specs.View.{good, bad}
-use Rattle.panel.specs.Event.{number, SegmentDone, CharacterDone, HearsSegment, HearsCharacter}
+use Rattle.panel.specs.View.{knownOf, good, bad}
+use Rattle.panel.specs.Event.{number, EventDone, AsRecord, HearsPart, Hears}
+use Rattle.panel.specs.Laws.{hears-as, record-as, tells-as}
 use Rattle.panel.specs.Report as Told
-use Rattle.panel.specs.Report.{TellsSegment, says}
+use Rattle.panel.specs.Report.{Tells, TellsPart, TellsSegment, SegmentExact, ReportExact, says}
 
-module _ (p : Family) (e : Event) (k : Panel) (r : Heard) (met : HearsSegment p e k r) (zero : number (r .answer) ≡ 0) where
-  heard : Sound (SegmentFact.range (sizes p)) (OfSegment.kview (k .segment)) × SegmentDone p e k r
-  heard = by met
+never-0 : (x : Refusal) → Record.number x ≡ 0 → ⊥
+never-0 Refusals.Unlisted e = omega arith
+never-0 Refusals.Foreign e = omega arith
+never-0 Refusals.CutShort e = omega arith
+never-0 Refusals.Forbidden e = omega arith
+
+module _ (b : ℕ) (p : Part) (named : partOf b ≡ Is p) (e : Event) (k : Panel) (r : Heard)
+    (met : Hears (partOf b) e k r) where
+  of-part : HearsPart p e k r
+  of-part = hears-as (partOf b) (Is p) e k r named met
+
+  -- An event that was read from a recording of the part is done, where every known value is in its range.
+  pub recorded-heard : (l : List ℕ) (m : ℕ) → front p l ≡ Reads.Is e m → Sound (range p) (knownOf p k)
+      → number (r .answer) ≡ 0
+  recorded-heard l m q s = by of-part
     where
-      by : HearsSegment p e k r → Sound (SegmentFact.range (sizes p)) (OfSegment.kview (k .segment)) × SegmentDone p e k r
-      by (good s d) = (s, d)
-      by (bad n d) = absurd (let x = sym (d .numbered) ∙ zero in omega (arith, x))
+      by : HearsPart p e k r → number (r .answer) ≡ 0
+      by (good t h) =
+          let d : EventDone p e k r = record-as (front p (recorded e)) (Reads.Is e m) p e k r (read-again p l e m q) h in
+          d .numbered
+      by (bad n h) = absurd (n s)
 
-  -- A fact is known exactly when all chips that fit the earlier knowledge, moved as the rules allow, agree on it, and has their value.
-  pub segment-exact : (f : SegmentFact.Fact) (v : ℕ)
-      → (OfSegment.kview (r .panel .segment) f ≡ known v → AllHave (SegmentFact.range (sizes p)) (SegmentMove.move (sizes p) e) (OfSegment.kview (k .segment)) f v)
-      × (AllHave (SegmentFact.range (sizes p)) (SegmentMove.move (sizes p) e) (OfSegment.kview (k .segment)) f v → OfSegment.kview (r .panel .segment) f ≡ known v)
-  segment-exact = event-exact OfSegment.kview SegmentFact.same? (SegmentFact.range (sizes p)) (SegmentRange.two p) (SegmentMove.move (sizes p) e) (k .segment) (r .panel .segment) (heard .1 .known) (heard .0)
+  module _ (zero : number (r .answer) ≡ 0) where
+    done : Sound (range p) (knownOf p k) × EventDone p e k r
+    done = by of-part
+      where
+        whole : (x : Read) → AsRecord x p e k r → EventDone p e k r
+        whole (Reads.Is y m) d = d
+        whole (Reads.Refused y) d = absurd (never-0 y (sym (d .numbered) ∙ zero))
 
-  -- A chip that fitted still fits.
-  pub segment-fits : (c : SegmentFact.Fact → ℕ) → Good (SegmentFact.range (sizes p)) c → Fits (OfSegment.kview (k .segment)) c
-      → (x : SegmentFact.Fact → ℕ) → Result (SegmentFact.range (sizes p)) (SegmentMove.move (sizes p) e) c x → Fits (OfSegment.kview (r .panel .segment)) x
-  segment-fits = event-fits OfSegment.kview SegmentFact.same? (SegmentFact.range (sizes p)) (SegmentRange.two p) (SegmentMove.move (sizes p) e) (k .segment) (r .panel .segment) (heard .1 .known) (heard .0)
+        by : HearsPart p e k r → Sound (range p) (knownOf p k) × EventDone p e k r
+        by (good s h) = (s, whole (front p (recorded e)) h)
+        by (bad n d) = absurd (let x = sym (d .numbered) ∙ zero in omega (arith, x))
 
-  -- The knowledge is in range again, so that the next event is not refused by 2.
-  pub segment-stays-sound : Bytes e → Sound (SegmentFact.range (sizes p)) (OfSegment.kview (r .panel .segment))
-  segment-stays-sound b =
-      event-sound OfSegment.kview SegmentFact.same? (SegmentFact.range (sizes p)) (SegmentRange.two p) (SegmentMove.move (sizes p) e) (k .segment) (r .panel .segment) (heard .1 .known)
-      (SegmentRange.ranged (sizes p) (SegmentRange.proper p) e b) (heard .0)
+    -- A fact is known exactly when all chips that fit the earlier knowledge, moved as the rules allow, agree on it, and
+    -- has their value.
+    pub heard-exact : (f : Fact p) (v : ℕ)
+        → (knownOf p (r .panel) f ≡ known v → AllHave (range p) (move p e) (knownOf p k) f v)
+        × (AllHave (range p) (move p e) (knownOf p k) f v → knownOf p (r .panel) f ≡ known v)
+    heard-exact =
+        event-exact (knownOf p) (same? p) (range p) (two p) (move p e) k (r .panel) (done .1 .after .known) (done .0)
 
-module _ (e : Event) (k : Panel) (r : Heard) (met : HearsCharacter e k r) (zero : number (r .answer) ≡ 0) where
-  listened : Sound CharacterFact.range (OfCharacter.kview (k .character)) × CharacterDone e k r
-  listened = by met
-    where
-      by : HearsCharacter e k r → Sound CharacterFact.range (OfCharacter.kview (k .character)) × CharacterDone e k r
-      by (good s d) = (s, d)
-      by (bad n d) = absurd (let x = sym (d .numbered) ∙ zero in omega (arith, x))
+    -- A chip that fitted fits, whichever of its results it has become.
+    pub heard-fits : (c : Fact p → ℕ) → Good (range p) c → Fits (knownOf p k) c
+        → (x : Fact p → ℕ) → Result (range p) (move p e) c x → Fits (knownOf p (r .panel)) x
+    heard-fits =
+        event-fits (knownOf p) (same? p) (range p) (two p) (move p e) k (r .panel) (done .1 .after .known) (done .0)
 
-  pub character-exact : (f : CharacterFact.Fact) (v : ℕ)
-      → (OfCharacter.kview (r .panel .character) f ≡ known v → AllHave CharacterFact.range (CharacterMove.move e) (OfCharacter.kview (k .character)) f v)
-      × (AllHave CharacterFact.range (CharacterMove.move e) (OfCharacter.kview (k .character)) f v → OfCharacter.kview (r .panel .character) f ≡ known v)
-  character-exact = event-exact OfCharacter.kview CharacterFact.same? CharacterFact.range CharacterRange.two (CharacterMove.move e) (k .character) (r .panel .character) (listened .1 .known) (listened .0)
+    -- Every known value is in its range again, so that the next event is not refused by 2.
+    pub heard-sound : Bytes e → Sound (range p) (knownOf p (r .panel))
+    heard-sound b =
+        event-sound (knownOf p) (same? p) (range p) (two p) (move p e) k (r .panel) (done .1 .after .known) (ranged p e b)
+        (done .0)
 
-  pub character-fits : (c : CharacterFact.Fact → ℕ) → Good CharacterFact.range c → Fits (OfCharacter.kview (k .character)) c
-      → (x : CharacterFact.Fact → ℕ) → Result CharacterFact.range (CharacterMove.move e) c x → Fits (OfCharacter.kview (r .panel .character)) x
-  character-fits = event-fits OfCharacter.kview CharacterFact.same? CharacterFact.range CharacterRange.two (CharacterMove.move e) (k .character) (r .panel .character) (listened .1 .known) (listened .0)
+segment-report : (f : Family) (k : Panel) (r : Report) → TellsSegment f k r → Told.number r ≡ 0 → SegmentExact f k r
+segment-report f k r (good sound told) zero =
+    subst⁻¹ (λ (s : Standing). Exact (Segment.range (sizes f)) (λ _. 257) (sent (sizes f)) (kview (k .segment)) tt s)
+    (told .told)
+    (know-exact Segment.same? (Segment.range (sizes f)) (SegmentRange.two f) (λ _. 257) (λ _. omega arith)
+    (sent (sizes f)) (kview (k .segment)) sound tt)
+segment-report f k r (bad n told) zero = absurd (let x = sym (told .numbered) ∙ zero in omega (arith, x))
 
-  pub character-stays-sound : Bytes e → Sound CharacterFact.range (OfCharacter.kview (r .panel .character))
-  character-stays-sound b =
-      event-sound OfCharacter.kview CharacterFact.same? CharacterFact.range CharacterRange.two (CharacterMove.move e) (k .character) (r .panel .character) (listened .1 .known) (CharacterRange.ranged e b) (listened .0)
-
--- The report is the byte, or not driven, exactly if all fitting chips agree on it, else unknown. There are 256 bytes, and not driven.
-pub report-exact : (p : Family) (k : Panel) (r : Report) → TellsSegment p k r → Told.number r ≡ 0
-    → Exact (SegmentFact.range (sizes p)) (λ _. 257) (sent (sizes p)) (OfSegment.kview (k .segment)) tt (says r)
-report-exact p k r (good sound told) zero =
-    subst⁻¹ (λ (s : Standing). Exact (SegmentFact.range (sizes p)) (λ _. 257) (sent (sizes p)) (OfSegment.kview (k .segment)) tt s) (told .told)
-    (know-exact SegmentFact.same? (SegmentFact.range (sizes p)) (SegmentRange.two p) (λ _. 257) (λ _. omega arith) (sent (sizes p)) (OfSegment.kview (k .segment)) sound tt)
-report-exact p k r (bad n told) zero = absurd (let x = sym (told .numbered) ∙ zero in omega (arith, x))
+-- The report of a part that sends bytes is exact, and no other is given number 0.
+pub report-exact : (b : ℕ) (p : Part) → partOf b ≡ Is p → (k : Panel) (r : Report) → Tells (partOf b) k r
+    → Told.number r ≡ 0 → ReportExact p k r
+report-exact b p named k r met zero = by p (tells-as (partOf b) (Is p) k r named met)
+  where
+    by : (q : Part) → TellsPart q k r → ReportExact q k r
+    by Pt6302 told = let x = sym (told .numbered) ∙ zero in omega (arith, x)
+    by Pt6312 told = segment-report OfFamily.Pt6312 k r told zero
+    by Pt6315 told = segment-report OfFamily.Pt6315 k r told zero

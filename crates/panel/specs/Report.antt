@@ -1,9 +1,8 @@
 -- The whole answer of the report: paper 01's number and place, and what is known of the byte to be sent next.
 use Prim.Native.Nat.{ℕ}
-use mathlib.Core.Path.{_≡_, subst}
-use Rattle.knowing.specs.Standing.{Standing, unknown, Sound}
+use mathlib.Core.Path.{_≡_}
+use Rattle.knowing.specs.Standing.{Standing, unknown, Sound, Exact}
 use Rattle.knowing.specs.Know.{know}
-use Rattle.terms.specs.declared.Place.{Place}
 use Rattle.terms.specs.declared.Part.{Part}
 use Rattle.terms.specs.declared.Part.the-variants.{Pt6302, Pt6312, Pt6315}
 use Rattle.terms.specs.declared.PartRead.{PartRead}
@@ -58,5 +57,12 @@ abbrev pub Tells : PartRead → Panel → Report → Type 0
 Tells (IsPart p) k r = TellsPart p k r
 Tells (Refused at) k r = Answers 1 unknown r
 
-pub tells-refused : (q : PartRead) (at : Place) (k : Panel) (r : Report) → Refused at ≡ q → Answers 1 unknown r → Tells q k r
-tells-refused q at k r p h = subst (λ (x : PartRead). Tells x k r) p h
+-- The byte to be sent next, or not driven, is reported exactly if all fitting chips agree on it, else unknown. There are
+-- 256 bytes, and not driven. PT6302 has no report.
+abbrev pub SegmentExact : Family → Panel → Report → Type 0
+SegmentExact p k r = Exact (range (sizes p)) (λ _. 257) (sent (sizes p)) (kview (k .segment)) tt (says r)
+
+abbrev pub ReportExact : Part → Panel → Report → Type 0
+ReportExact Pt6302 k r = ⊥
+ReportExact Pt6312 k r = SegmentExact OfFamily.Pt6312 k r
+ReportExact Pt6315 k r = SegmentExact OfFamily.Pt6315 k r

@@ -1,17 +1,30 @@
--- Two answers that meet a promise are equal. The argument: the number and place fix the answer, and what is known of every fact fixes the knowledge.
+-- Two answers that meet a promise are equal. The argument: the number and place fix the answer, and what is known of every
+-- fact fixes the knowledge.
 use Prim.Native.Nat.{ℕ, _<_}
 use native.Mathlib.Omega.{arith}
 use mathlib.Core.Path.{_≡_, refl, sym, ap, _∙_}
+use lib.Dec.{eqb}
+use Rattle.rules.specs.Choice.{whether}
 use Rattle.knowing.specs.Standing.{known}
 use Rattle.knowing.specs.Join.{not-known, known-one}
 use Rattle.knowing.specs.Standing as Standing
 use Rattle.terms.specs.declared.Event.{Event}
+use Rattle.terms.specs.declared.Place.{Place}
+use Rattle.terms.specs.declared.Part.{Part}
 use Rattle.terms.specs.declared.Part.the-variants.{Pt6302, Pt6312, Pt6315}
 use Rattle.terms.specs.declared.PartRead.{PartRead}
 use Rattle.terms.specs.declared.PartRead.the-variants.{Is as IsPart, Refused}
+use Rattle.terms.specs.Event.{recorded}
+use Rattle.parts.specs.Facts.{Fact}
+use Rattle.recording.specs.declared.read.Read.{Read}
+use Rattle.recording.specs.declared.read.Read.the-variants as Reads
+use Rattle.recording.specs.Record as Record
+use Rattle.recording.specs.Record.{front}
 use Rattle.segment.specs.declared.chip.Family.{Family}
 use Rattle.segment.specs.declared.chip.Family.the-variants as OfFamily
 use Rattle.segment_knowledge.specs.Unique as OfSegment
+use Rattle.segment_knowledge.specs.View as SegmentView
+use Rattle.segment.specs.Fact as SegmentFact
 use Rattle.character_knowledge.specs.Unique as OfCharacter
 use Rattle.segment_sent.specs.declared.report.Sending.{Sending}
 use Rattle.segment_sent.specs.declared.report.Sending.the-variants.{Byte, NotDriven, Unknown}
@@ -22,8 +35,8 @@ use Rattle.panel.specs.declared.events.Answer.the-variants as A
 use Rattle.panel.specs.declared.events.Heard.{Heard}
 use Rattle.panel.specs.declared.reports.Report.{Report}
 use Rattle.panel.specs.declared.reports.Report.the-variants as R
-use Rattle.panel.specs.View.{good, bad}
-use Rattle.panel.specs.Event.{number, place, RefusedBy, SegmentDone, CharacterDone, HearsSegment, HearsCharacter, Hears}
+use Rattle.panel.specs.View.{knownOf, OtherKept, good, bad}
+use Rattle.panel.specs.Event.{number, place, RefusedBy, EventDone, AsRecord, HearsPart, Hears}
 use Rattle.panel.specs.Report as Told
 
 -- Both halves are as long as the arrays of their types. This holds of every knowledge that code hands over.
@@ -31,54 +44,71 @@ pub record Shaped (k : Panel) : Type 0 where
   pub segment : OfSegment.Shaped (k .segment)
   pub character : OfCharacter.Shaped (k .character)
 
-same-answer : (a b : Answer) → number a ≡ number b → place a ≡ place b → a ≡ b
-same-answer A.Done A.Done n p = refl
-same-answer A.Done (A.NoPart y) n p = absurd (omega arith)
-same-answer A.Done (A.OutOfRange y) n p = absurd (omega arith)
-same-answer (A.NoPart x) A.Done n p = absurd (omega arith)
-same-answer (A.NoPart x) (A.NoPart y) n p = λ i. A.NoPart (record { 0 = p i })
-same-answer (A.NoPart x) (A.OutOfRange y) n p = absurd (omega arith)
-same-answer (A.OutOfRange x) A.Done n p = absurd (omega arith)
-same-answer (A.OutOfRange x) (A.NoPart y) n p = absurd (omega arith)
-same-answer (A.OutOfRange x) (A.OutOfRange y) n p = λ i. A.OutOfRange (record { 0 = p i })
+-- Two panels of which the same is known, for a part, and that keep the other half of one before them, are equal.
+pub same-panel : (p : Part) (k r q : Panel) → Shaped r → Shaped q → ((f : Fact p) → knownOf p r f ≡ knownOf p q f)
+    → OtherKept p k r → OtherKept p k q → r ≡ q
+same-panel p k r q sr sq = by p
+  where
+    by-segment : ((f : SegmentFact.Fact) → SegmentView.kview (r .segment) f ≡ SegmentView.kview (q .segment) f)
+        → r .character ≡ k .character → q .character ≡ k .character → r ≡ q
+    by-segment h x y =
+        let mine = OfSegment.same-knowledge (r .segment) (q .segment) (sr .segment) (sq .segment) h in
+        let other = x ∙ sym y in
+        λ i. record { segment = mine i; character = other i }
 
-same-heard : (r q : Heard) → r .answer ≡ q .answer → r .panel ≡ q .panel → r ≡ q
-same-heard r q a p = λ i. record { answer = a i; panel = p i }
+    by : (p : Part) → ((f : Fact p) → knownOf p r f ≡ knownOf p q f) → OtherKept p k r → OtherKept p k q → r ≡ q
+    by Pt6302 h x y =
+        let mine = OfCharacter.same-knowledge (r .character) (q .character) (sr .character) (sq .character) h in
+        let other = x ∙ sym y in
+        λ i. record { segment = other i; character = mine i }
+    by Pt6312 h x y = by-segment h x y
+    by Pt6315 h x y = by-segment h x y
+
+-- The answer with a number and a place, and that every answer is the one with its own.
+abbrev back : ℕ → Place → Answer
+back n at =
+    whether (eqb n 0) A.Done
+    (whether (eqb n 1) (A.NoPart at)
+    (whether (eqb n 2) (A.OutOfRange at)
+    (whether (eqb n 6) (A.Foreign at) (A.Forbidden at))))
+
+read-back : (a : Answer) → back (number a) (record { 0 = place a }) ≡ a
+read-back A.Done = refl
+read-back (A.NoPart at) = refl
+read-back (A.OutOfRange at) = refl
+read-back (A.Foreign at) = refl
+read-back (A.Forbidden at) = refl
+
+same-heard : (r q : Heard) → number (r .answer) ≡ number (q .answer) → place (r .answer) ≡ place (q .answer)
+    → r .panel ≡ q .panel → r ≡ q
+same-heard r q n p e =
+    let a = sym (read-back (r .answer)) ∙ (λ i. back (n i) (record { 0 = p i })) ∙ read-back (q .answer) in
+    λ i. record { answer = a i; panel = e i }
 
 one-refusal : (n : ℕ) (k : Panel) (r q : Heard) → RefusedBy n k r → RefusedBy n k q → r ≡ q
 one-refusal n k r q h g =
-    same-heard r q (same-answer (r .answer) (q .answer) (h .numbered ∙ sym (g .numbered)) (h .placed ∙ sym (g .placed))) (h .kept ∙ sym (g .kept))
+    same-heard r q (h .numbered ∙ sym (g .numbered)) (h .placed ∙ sym (g .placed)) (h .kept ∙ sym (g .kept))
 
 module _ (e : Event) (k : Panel) (r q : Heard) (sr : Shaped (r .panel)) (sq : Shaped (q .panel)) where
-  segment-done : (p : Family) → SegmentDone p e k r → SegmentDone p e k q → r ≡ q
-  segment-done p h g =
-      let halves = OfSegment.same-knowledge (r .panel .segment) (q .panel .segment) (sr .segment) (sq .segment) (λ f. h .known f ∙ sym (g .known f)) in
-      let others = h .kept ∙ sym (g .kept) in
-      same-heard r q (same-answer (r .answer) (q .answer) (h .numbered ∙ sym (g .numbered)) (h .placed ∙ sym (g .placed))) (λ i. record { segment = halves i; character = others i })
+  one-done : (p : Part) → EventDone p e k r → EventDone p e k q → r ≡ q
+  one-done p h g =
+      same-heard r q (h .numbered ∙ sym (g .numbered)) (h .placed ∙ sym (g .placed))
+      (same-panel p k (r .panel) (q .panel) sr sq (λ f. h .after .known f ∙ sym (g .after .known f)) (h .after .kept)
+      (g .after .kept))
 
-  character-done : CharacterDone e k r → CharacterDone e k q → r ≡ q
-  character-done h g =
-      let halves = OfCharacter.same-knowledge (r .panel .character) (q .panel .character) (sr .character) (sq .character) (λ f. h .known f ∙ sym (g .known f)) in
-      let others = h .kept ∙ sym (g .kept) in
-      same-heard r q (same-answer (r .answer) (q .answer) (h .numbered ∙ sym (g .numbered)) (h .placed ∙ sym (g .placed))) (λ i. record { segment = others i; character = halves i })
+  one-as : (x : Read) (p : Part) → AsRecord x p e k r → AsRecord x p e k q → r ≡ q
+  one-as (Reads.Is y m) p h g = one-done p h g
+  one-as (Reads.Refused y) p h g = one-refusal (Record.number y) k r q h g
 
-  one-segment : (p : Family) → HearsSegment p e k r → HearsSegment p e k q → r ≡ q
-  one-segment p (good s h) (good t g) = segment-done p h g
-  one-segment p (good s h) (bad n g) = absurd (n s)
-  one-segment p (bad n h) (good s g) = absurd (n s)
-  one-segment p (bad n h) (bad m g) = one-refusal 2 k r q h g
-
-  one-character : HearsCharacter e k r → HearsCharacter e k q → r ≡ q
-  one-character (good s h) (good t g) = character-done h g
-  one-character (good s h) (bad n g) = absurd (n s)
-  one-character (bad n h) (good s g) = absurd (n s)
-  one-character (bad n h) (bad m g) = one-refusal 2 k r q h g
+  one-part : (p : Part) → HearsPart p e k r → HearsPart p e k q → r ≡ q
+  one-part p (good s h) (good t g) = one-as (front p (recorded e)) p h g
+  one-part p (good s h) (bad n g) = absurd (n s)
+  one-part p (bad n h) (good s g) = absurd (n s)
+  one-part p (bad n h) (bad m g) = one-refusal 2 k r q h g
 
   -- Two answers to one event are one.
   pub one-heard : (p : PartRead) → Hears p e k r → Hears p e k q → r ≡ q
-  one-heard (IsPart Pt6302) h g = one-character h g
-  one-heard (IsPart Pt6312) h g = one-segment OfFamily.Pt6312 h g
-  one-heard (IsPart Pt6315) h g = one-segment OfFamily.Pt6315 h g
+  one-heard (IsPart p) h g = one-part p h g
   one-heard (Refused at) h g = one-refusal 1 k r q h g
 
 -- A byte is below 256. This holds of every report that code hands over.

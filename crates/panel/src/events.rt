@@ -1,19 +1,28 @@
 // What one event makes of a panel's knowledge.
+use crate::halves::after;
+use crate::halves::in_range;
 use crate::knowledge::Panel;
-use segment::Family;
+use recording::Carried;
+use recording::carries;
 use terms::Event;
 use terms::Part;
 use terms::PartRead;
 use terms::Place;
 use terms::part_of;
+ghost use Rattle.terms.specs.Event.{recorded};
 ghost use Rattle.terms.specs.Part.{partOf};
-ghost use Rattle.panel.specs.Event.{Hears, HearsPart, HearsSegment, HearsCharacter};
+ghost use Rattle.recording.specs.Record.{front};
+ghost use Rattle.panel.specs.Event.{Hears, HearsPart, AsRecord};
 
-// Done, or why not: number 1 or 2 at its place.
+// Done, or why not: number 1, 2, 6 or 8 at its place.
 pub enum Answer {
     Done,
     NoPart(Place),
     OutOfRange(Place),
+    // The part has no such event.
+    Foreign(Place),
+    // A value that the event carries is not allowed.
+    Forbidden(Place),
 }
 
 // The answer, and the knowledge: after the event where it is done, else as it was handed in.
@@ -38,23 +47,8 @@ pub fn hear(part: u8, panel: Panel, event: Event) -> Heard
 fn heard_by(part: Part, panel: Panel, event: Event) -> Heard
     ensures { λ r. ⌜ HearsPart part event panel r ⌝ }
 {
-    match part {
-        Part::Pt6302 => character_heard(panel, event),
-        Part::Pt6312 => segment_heard(Family::Pt6312, panel, event),
-        Part::Pt6315 => segment_heard(Family::Pt6315, panel, event),
-    }
-}
-
-fn segment_heard(family: Family, panel: Panel, event: Event) -> Heard
-    ensures { λ r. ⌜ HearsSegment family event panel r ⌝ }
-{
-    let k = panel.segment;
-    if segment_knowledge::sound(family, k) {
-        let segment = segment_known::moved(family, k, event);
-        Heard {
-            answer: Answer::Done,
-            panel: Panel { segment, ..panel },
-        }
+    if in_range(part, panel) {
+        as_recorded(part, panel, event)
     } else {
         Heard {
             answer: Answer::OutOfRange(Place(0)),
@@ -63,20 +57,23 @@ fn segment_heard(family: Family, panel: Panel, event: Event) -> Heard
     }
 }
 
-fn character_heard(panel: Panel, event: Event) -> Heard
-    ensures { λ r. ⌜ HearsCharacter event panel r ⌝ }
+// What no recording can carry is refused as its record is.
+fn as_recorded(part: Part, panel: Panel, event: Event) -> Heard
+    ensures { λ r. ⌜ AsRecord (front part (recorded event)) part event panel r ⌝ }
 {
-    let k = panel.character;
-    if character_knowledge::sound(k) {
-        let character = character_known::moved(k, event);
-        Heard {
+    let carried = carries(part, event);
+    match carried {
+        Carried::Yes => Heard {
             answer: Answer::Done,
-            panel: Panel { character, ..panel },
-        }
-    } else {
-        Heard {
-            answer: Answer::OutOfRange(Place(0)),
+            panel: after(part, panel, event),
+        },
+        Carried::Foreign => Heard {
+            answer: Answer::Foreign(Place(0)),
             panel,
-        }
+        },
+        Carried::Forbidden => Heard {
+            answer: Answer::Forbidden(Place(0)),
+            panel,
+        },
     }
 }

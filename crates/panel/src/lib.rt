@@ -1,5 +1,6 @@
 // A panel's knowledge, whichever of the three parts drives it; what one event makes of it; and the report of the byte to be sent next.
 mod events;
+mod halves;
 mod knowledge;
 mod reports;
 

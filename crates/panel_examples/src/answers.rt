@@ -13,6 +13,8 @@ pub fn show(answer: Answer) {
         Answer::Done => {}
         Answer::NoPart(place) => refused(1, place),
         Answer::OutOfRange(place) => refused(2, place),
+        Answer::Foreign(place) => refused(6, place),
+        Answer::Forbidden(place) => refused(8, place),
     }
 }
 

@@ -36,17 +36,22 @@ belongs p kind = whether (eqb kind 7 || eqb kind 9) (keyed p) (whether (eqb kind
 abbrev pub bodyOf : ℕ → ℕ
 bodyOf kind = whether (eqb kind 7) 4 (whether (eqb kind 3 || eqb kind 6 || eqb kind 8) 1 0)
 
--- PT6312 uses three key bytes; the fourth is 0.
+-- The body values that are allowed: 06 carries 1 to 7, 08 carries 0 to 15; PT6312 uses three key bytes, the fourth is 0.
+abbrev pub bitsAllowed : ℕ → Bool
+bitsAllowed n = ltb 0 n && ltb n 8
+
+abbrev pub switchesAllowed : ℕ → Bool
+switchesAllowed v = ltb v 16
+
 abbrev pub fourthAllowed : Part → ℕ → Bool
 fourthAllowed Pt6302 b = true
 fourthAllowed Pt6312 b = eqb b 0
 fourthAllowed Pt6315 b = true
 
--- The body values that are allowed: 06 carries 1 to 7, 08 carries 0 to 15.
 abbrev pub allowed : Part → ℕ → ℕ → ℕ → Bool
 allowed p kind first fourth =
-    whether (eqb kind 6) (ltb 0 first && ltb first 8)
-    (whether (eqb kind 8) (ltb first 16)
+    whether (eqb kind 6) (bitsAllowed first)
+    (whether (eqb kind 8) (switchesAllowed first)
     (whether (eqb kind 7) (fourthAllowed p fourth) true))
 
 -- The event of a kind and its body.
@@ -63,10 +68,10 @@ eventOf kind b0 b1 b2 b3 =
 
 -- What these bodies come to, by themselves.
 abbrev pub ofUnfinished : ℕ → Read
-ofUnfinished n = whether (ltb 0 n && ltb n 8) (Is (Unfinished n) 2) (Refused Forbidden)
+ofUnfinished n = whether (bitsAllowed n) (Is (Unfinished n) 2) (Refused Forbidden)
 
 abbrev pub ofSwitches : ℕ → Read
-ofSwitches v = whether (ltb v 16) (Is (Switches v) 2) (Refused Forbidden)
+ofSwitches v = whether (switchesAllowed v) (Is (Switches v) 2) (Refused Forbidden)
 
 abbrev pub ofKeys : Part → ℕ → ℕ → ℕ → ℕ → Read
 ofKeys p k0 k1 k2 k3 = whether (fourthAllowed p k3) (Is (Keys k0 k1 k2 k3) 5) (Refused Forbidden)
@@ -74,7 +79,9 @@ ofKeys p k0 k1 k2 k3 = whether (fourthAllowed p k3) (Is (Keys k0 k1 k2 k3) 5) (R
 -- 8: a body value that is not allowed.
 abbrev pub ofBody : Part → ℕ → List ℕ → Read
 ofBody p kind l =
-    whether (allowed p kind (getD l 1 0) (getD l 4 0)) (Is (eventOf kind (getD l 1 0) (getD l 2 0) (getD l 3 0) (getD l 4 0)) (suc (bodyOf kind))) (Refused Forbidden)
+    whether (allowed p kind (getD l 1 0) (getD l 4 0))
+    (Is (eventOf kind (getD l 1 0) (getD l 2 0) (getD l 3 0) (getD l 4 0)) (suc (bodyOf kind)))
+    (Refused Forbidden)
 
 -- Each record is tested by 5, 6, 7, 8, in that order: kind not listed, kind not of this part, body cut short, body value not allowed.
 abbrev pub ofKind : Part → ℕ → List ℕ → Read

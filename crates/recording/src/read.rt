@@ -1,12 +1,17 @@
 // One record.
+use crate::bodies::bits_allowed;
 use crate::bodies::body_of;
+use crate::bodies::fourth_allowed;
+use crate::bodies::switches_allowed;
+use crate::kinds::is_listed;
+use crate::kinds::is_of;
 use terms::Event;
 use terms::Part;
 use terms::Place;
 ghost use mathlib.Core.Path.{_≡_};
 ghost use Prim.Native.Nat.{_+_, _<_};
 ghost use lib.ListN.{length, drop};
-ghost use Rattle.recording.specs.Record.{listed, keyed, switched, belongs, bodyOf, ofBody, ofUnfinished, ofSwitches, ofKeys, front};
+ghost use Rattle.recording.specs.Record.{bodyOf, ofBody, ofUnfinished, ofSwitches, ofKeys, front};
 
 // Why there is no record: numbers 5, 6, 7 and 8.
 pub enum Refusal {
@@ -46,43 +51,6 @@ pub fn record_at(part: Part, bytes: &[u8], at: Place) -> Read
     read_body(part, kind, bytes, i)
 }
 
-fn is_listed(kind: u8) -> bool
-    ensures { λ r. ⌜ r ≡ listed kind ⌝ }
-{
-    0 < kind && kind < 10
-}
-
-fn is_of(part: Part, kind: u8) -> bool
-    ensures { λ r. ⌜ r ≡ belongs part kind ⌝ }
-{
-    match kind {
-        7 => has_keys(part),
-        8 => has_switches(part),
-        9 => has_keys(part),
-        _ => true,
-    }
-}
-
-fn has_keys(part: Part) -> bool
-    ensures { λ r. ⌜ r ≡ keyed part ⌝ }
-{
-    match part {
-        Part::Pt6302 => false,
-        Part::Pt6312 => true,
-        Part::Pt6315 => true,
-    }
-}
-
-fn has_switches(part: Part) -> bool
-    ensures { λ r. ⌜ r ≡ switched part ⌝ }
-{
-    match part {
-        Part::Pt6302 => false,
-        Part::Pt6312 => true,
-        Part::Pt6315 => false,
-    }
-}
-
 // The whole body is there.
 fn read_body(part: Part, kind: u8, bytes: &[u8], i: usize) -> Read
     requires { ⌜ i + bodyOf kind < length (now bytes) ⌝ }
@@ -104,12 +72,8 @@ fn read_body(part: Part, kind: u8, bytes: &[u8], i: usize) -> Read
 fn unfinished(bits: u8) -> Read
     ensures { λ r. ⌜ r ≡ ofUnfinished bits ⌝ }
 {
-    if 0 < bits {
-        if bits < 8 {
-            Read::Is(Event::Unfinished(bits), 2)
-        } else {
-            Read::Refused(Refusal::Forbidden)
-        }
+    if bits_allowed(bits) {
+        Read::Is(Event::Unfinished(bits), 2)
     } else {
         Read::Refused(Refusal::Forbidden)
     }
@@ -118,7 +82,7 @@ fn unfinished(bits: u8) -> Read
 fn switches(value: u8) -> Read
     ensures { λ r. ⌜ r ≡ ofSwitches value ⌝ }
 {
-    if value < 16 {
+    if switches_allowed(value) {
         Read::Is(Event::Switches(value), 2)
     } else {
         Read::Refused(Refusal::Forbidden)
@@ -128,15 +92,9 @@ fn switches(value: u8) -> Read
 fn keys(part: Part, k0: u8, k1: u8, k2: u8, k3: u8) -> Read
     ensures { λ r. ⌜ r ≡ ofKeys part k0 k1 k2 k3 ⌝ }
 {
-    match part {
-        Part::Pt6302 => Read::Is(Event::Keys(k0, k1, k2, k3), 5),
-        Part::Pt6312 => {
-            if k3 == 0 {
-                Read::Is(Event::Keys(k0, k1, k2, k3), 5)
-            } else {
-                Read::Refused(Refusal::Forbidden)
-            }
-        }
-        Part::Pt6315 => Read::Is(Event::Keys(k0, k1, k2, k3), 5),
+    if fourth_allowed(part, k3) {
+        Read::Is(Event::Keys(k0, k1, k2, k3), 5)
+    } else {
+        Read::Refused(Refusal::Forbidden)
     }
 }

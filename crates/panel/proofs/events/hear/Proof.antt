@@ -1,8 +1,8 @@
 -- `panel::events::hear` meets its contract: the part byte is looked at once; what names no part is refused.
 -- Assumes nothing.
-use Rattle.panel.specs.Event.{Hears, hears-refused}
+use mathlib.Core.Path.{refl, sym, ap, _∙_}
 use Rattle.terms.specs.Part.{place}
-use mathlib.Core.Path.{refl, sym, ap, _∙_, subst}
+use Rattle.panel.specs.Laws.{hears-as}
 use borrow.Author.Needs.{needs}
 use Rattle.panel.proofs.events.hear.Statement.{statement}
 use Rattle.panel.proofs.events.hear.Tie as tie
@@ -21,13 +21,13 @@ enum-known-read-2 c = search needs
 
 returns : tie.Need-returns
 returns c = let a = c .before .before .before .before .before .args in
-    subst (λ p. Hears p (a .event) (a .panel) (c .heard-by .result)) (sym (c .before .before .read .given .1) ∙ c .before .before .before .before .part-of .ensures .0) (c .heard-by .ensures)
+    hears-as _ _ (a .event) (a .panel) (c .heard-by .result) (sym (c .before .before .read .given .1) ∙ c .before .before .before .before .part-of .ensures .0) (c .heard-by .ensures)
 
 returns-2 : tie.Need-returns-2
 returns-2 c = let a = c .before .before .before .before .args in
     let e = c .before .read2 .given .1 in
     let p = c .before .before .before .part-of .ensures in
-    hears-refused _ _ (a .event) (a .panel) _ (sym e ∙ p .0) (record { numbered = refl; placed = ap place (sym e) ∙ p .1 .1; kept = refl })
+    hears-as _ _ (a .event) (a .panel) _ (sym e ∙ p .0) (record { numbered = refl; placed = ap place (sym e) ∙ p .1 .1; kept = refl })
 
 pub hear-spec : {M : Type 1} → statement M
 hear-spec =

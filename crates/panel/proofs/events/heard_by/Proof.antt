@@ -1,48 +1,23 @@
--- `panel::events::heard_by` meets its contract: each part goes to its family.
+-- `panel::events::heard_by` meets its contract: the test of 2 decides, and what stands behind it does the rest.
 -- Assumes nothing.
-use Rattle.panel.specs.Event.{HearsPart}
-use mathlib.Core.Path.{subst⁻¹}
+use mathlib.Core.Bool.{true≢false}
+use mathlib.Core.Path.{refl, sym, _∙_}
+use Rattle.panel.specs.View.{good, bad}
 use borrow.Author.Needs.{needs}
 use Rattle.panel.proofs.events.heard_by.Statement.{statement}
 use Rattle.panel.proofs.events.heard_by.Tie as tie
 
-enum-told : tie.Need-enum-told
-enum-told c = search needs
+in-range-requires : tie.Need-in-range-requires
+in-range-requires c κs = search needs
 
-character-heard-requires : tie.Need-character-heard-requires
-character-heard-requires c κs = search needs
-
-enum-told-2 : tie.Need-enum-told-2
-enum-told-2 c = search needs
-
-segment-heard-requires : tie.Need-segment-heard-requires
-segment-heard-requires c κs = search needs
-
-enum-told-3 : tie.Need-enum-told-3
-enum-told-3 c = search needs
-
-segment-heard-requires-2 : tie.Need-segment-heard-requires-2
-segment-heard-requires-2 c κs = search needs
+as-recorded-requires : tie.Need-as-recorded-requires
+as-recorded-requires c κs = search needs
 
 returns : tie.Need-returns
-returns c = subst⁻¹ (λ p. HearsPart p (c .before .before .before .args .event) (c .before .before .before .args .panel) (c .character-heard .result)) (c .before .enum-told .given .1) (c .character-heard .ensures)
+returns c = good (c .before .before .in-range .ensures .so (c .before .if1 .taken)) (c .as-recorded .ensures)
 
 returns-2 : tie.Need-returns-2
-returns-2 c = subst⁻¹ (λ p. HearsPart p (c .before .before .before .args .event) (c .before .before .before .args .panel) (c .segment-heard .result)) (c .before .enum-told2 .given .1) (c .segment-heard .ensures)
-
-returns-3 : tie.Need-returns-3
-returns-3 c = subst⁻¹ (λ p. HearsPart p (c .before .before .before .args .event) (c .before .before .before .args .panel) (c .segment-heard2 .result)) (c .before .enum-told3 .given .1) (c .segment-heard2 .ensures)
+returns-2 c = bad (λ g. true≢false (sym (c .before .in-range .ensures .back g) ∙ c .if1 .left)) (record { numbered = refl; placed = refl; kept = refl })
 
 pub heard-by-spec : {M : Type 1} → statement M
-heard-by-spec =
-    tie.close
-    (tie.spec
-    enum-told
-    character-heard-requires
-    enum-told-2
-    segment-heard-requires
-    enum-told-3
-    segment-heard-requires-2
-    returns
-    returns-2
-    returns-3)
+heard-by-spec = tie.close (tie.spec in-range-requires as-recorded-requires returns returns-2)

@@ -1,8 +1,8 @@
 -- `panel::reports::next_sent` meets its contract: the part byte is looked at once; what names no part is refused.
 -- Assumes nothing.
-use Rattle.panel.specs.Report.{Tells, tells-refused}
+use Rattle.panel.specs.Laws.{tells-as}
 use Rattle.terms.specs.Part.{place}
-use mathlib.Core.Path.{refl, sym, ap, _∙_, subst}
+use mathlib.Core.Path.{refl, sym, ap, _∙_}
 use borrow.Author.Needs.{needs}
 use Rattle.panel.proofs.reports.next_sent.Statement.{statement}
 use Rattle.panel.proofs.reports.next_sent.Tie as tie
@@ -21,13 +21,13 @@ enum-known-read-2 c = search needs
 
 returns : tie.Need-returns
 returns c = let a = c .before .before .before .before .before .args in
-    subst (λ p. Tells p (a .panel) (c .sent-by .result)) (sym (c .before .before .read .given .1) ∙ c .before .before .before .before .part-of .ensures .0) (c .sent-by .ensures)
+    tells-as _ _ (a .panel) (c .sent-by .result) (sym (c .before .before .read .given .1) ∙ c .before .before .before .before .part-of .ensures .0) (c .sent-by .ensures)
 
 returns-2 : tie.Need-returns-2
 returns-2 c = let a = c .before .before .before .before .args in
     let e = c .before .read2 .given .1 in
     let p = c .before .before .before .part-of .ensures in
-    tells-refused _ _ (a .panel) _ (sym e ∙ p .0) (record { numbered = refl; placed = ap place (sym e) ∙ p .1 .1; told = refl })
+    tells-as _ _ (a .panel) _ (sym e ∙ p .0) (record { numbered = refl; placed = ap place (sym e) ∙ p .1 .1; told = refl })
 
 pub next-sent-spec : {M : Type 1} → statement M
 next-sent-spec =

@@ -1,10 +1,10 @@
--- `recording::read::is_of` meets its contract: 07 and 09, 08, and the others.
+-- `recording::kinds::is_of` meets its contract: 07 and 09, 08, and the others.
 -- Assumes nothing.
 use mathlib.Core.Path.{sym}
 use Rattle.recording.specs.Laws.{no-inputs}
 use borrow.Author.Needs.{needs}
-use Rattle.recording.proofs.read.is_of.Statement.{statement}
-use Rattle.recording.proofs.read.is_of.Tie as tie
+use Rattle.recording.proofs.kinds.is_of.Statement.{statement}
+use Rattle.recording.proofs.kinds.is_of.Tie as tie
 
 has-keys-requires : tie.Need-has-keys-requires
 has-keys-requires c κs = search needs

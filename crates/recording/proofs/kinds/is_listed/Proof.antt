@@ -1,9 +1,9 @@
--- `recording::read::is_listed` meets its contract: the two tests are the definition's.
+-- `recording::kinds::is_listed` meets its contract: the two tests are the definition's.
 -- Assumes nothing.
 use mathlib.Core.Path.{refl}
 use borrow.Author.Tests.{lt-ltb, le-ltb}
-use Rattle.recording.proofs.read.is_listed.Statement.{statement}
-use Rattle.recording.proofs.read.is_listed.Tie as tie
+use Rattle.recording.proofs.kinds.is_listed.Statement.{statement}
+use Rattle.recording.proofs.kinds.is_listed.Tie as tie
 
 returns : tie.Need-returns
 returns c = simp (lt-ltb _ _ (c .if1 .taken)) refl
