@@ -40,27 +40,27 @@ position-fits inAdram = omega arith
 position-fits Ignoring = omega arith
 
 -- What a command carries is in range.
-abbrev pub Carries : Command → Type 0
-Carries (Dcram a) = a .0 < 16
-Carries (Cgram a) = a .0 < 8
-Carries (Adram a) = a .0 < 16
-Carries (Port p) = p < 4
-Carries (Duty d) = d < 8
-Carries (Digits d) = d < 8
-Carries (Light l) = Unit
-Carries Nothing = Unit
-Carries Undefined = Unit
+abbrev pub CommandInRange : Command → Type 0
+CommandInRange (Dcram a) = a .0 < 16
+CommandInRange (Cgram a) = a .0 < 8
+CommandInRange (Adram a) = a .0 < 16
+CommandInRange (Port p) = p < 4
+CommandInRange (Duty d) = d < 8
+CommandInRange (Digits d) = d < 8
+CommandInRange (Light l) = Unit
+CommandInRange Nothing = Unit
+CommandInRange Undefined = Unit
 
-pub command-carries : (b : ℕ) → Carries (commandOf b)
-command-carries b =
-    whether-all Carries (eqb (b / 16) 1) (Dcram (record { 0 = b % 16 })) _ (λ _. omega arith)
-    (λ _. whether-all Carries (eqb (b / 16) 2) (Cgram (record { 0 = b % 8 })) _ (λ _. omega arith)
-    (λ _. whether-all Carries (eqb (b / 16) 3) (Adram (record { 0 = b % 16 })) _ (λ _. omega arith)
-    (λ _. whether-all Carries (eqb (b / 16) 4) (Port (b % 4)) _ (λ _. omega arith)
-    (λ _. whether-all Carries (eqb (b / 16) 5) (Duty (b % 8)) _ (λ _. omega arith)
-    (λ _. whether-all Carries (eqb (b / 16) 6) (Digits (b % 8)) _ (λ _. omega arith)
-    (λ _. whether-all Carries (eqb (b / 16) 7) (Light (lightsOf b)) (spareOf b) (λ _. tt)
-    (λ _. whether-all Carries (eqb b 0x80) _ _ (λ _. tt) (λ _. whether-all Carries (eqb b 0x88) _ _ (λ _. tt) (λ _. tt)))))))))
+pub command-in-range : (b : ℕ) → CommandInRange (commandOf b)
+command-in-range b =
+    whether-all CommandInRange (eqb (b / 16) 1) (Dcram (record { 0 = b % 16 })) _ (λ _. omega arith)
+    (λ _. whether-all CommandInRange (eqb (b / 16) 2) (Cgram (record { 0 = b % 8 })) _ (λ _. omega arith)
+    (λ _. whether-all CommandInRange (eqb (b / 16) 3) (Adram (record { 0 = b % 16 })) _ (λ _. omega arith)
+    (λ _. whether-all CommandInRange (eqb (b / 16) 4) (Port (b % 4)) _ (λ _. omega arith)
+    (λ _. whether-all CommandInRange (eqb (b / 16) 5) (Duty (b % 8)) _ (λ _. omega arith)
+    (λ _. whether-all CommandInRange (eqb (b / 16) 6) (Digits (b % 8)) _ (λ _. omega arith)
+    (λ _. whether-all CommandInRange (eqb (b / 16) 7) (Light (lightsOf b)) (spareOf b) (λ _. tt)
+    (λ _. whether-all CommandInRange (eqb b 0x80) _ _ (λ _. tt) (λ _. whether-all CommandInRange (eqb b 0x88) _ _ (λ _. tt) (λ _. tt)))))))))
 
 -- Setting a fact to a value in its range keeps forms in range.
 pub sets-fit : (g : Fact) (v : ℕ) (φ : Forms) → v < range g → InRange same? range φ → InRange same? range (sets g v φ)
@@ -75,7 +75,7 @@ then-fits q = sets-fit position (at-position q) keep (position-fits q) kept
 abbrev Fine : Rule Fact Fact → Type 0
 Fine rule = Ranged range range rule
 
-commanded-fits : (m : Command) → Carries m → InRange same? range (commanded m)
+commanded-fits : (m : Command) → CommandInRange m → InRange same? range (commanded m)
 commanded-fits (Dcram a) h = sets-fit dcramAt (a .0) _ h (then-fits inDcram)
 commanded-fits (Cgram a) h = sets-fit cgramAt (a .0) _ h (sets-fit column 0 _ (omega arith) (then-fits inCgram))
 commanded-fits (Adram a) h = sets-fit adramAt (a .0) _ h (then-fits inAdram)
@@ -101,7 +101,7 @@ ranged Falls h = then-fits First
 ranged (ByteIn b) h =
     λ q _. of6-all Fine _ _ _ _ _ _
     kept
-    (commanded-fits (commandOf b) (command-carries b))
+    (commanded-fits (commandOf b) (command-in-range b))
     (λ a _. sets-fit dcramAt ((a % 16 + 1) % 16) (sets (dcram (a % 16)) b keep) (omega arith) (sets-fit (dcram (a % 16)) b keep h kept))
     (λ a _ k _. drawn-fits b a k)
     (λ a _. sets-fit adramAt ((a % 16 + 1) % 16) (sets (adram (a % 16)) (b % 4) keep) (omega arith) (sets-fit (adram (a % 16)) (b % 4) keep (omega arith) kept))

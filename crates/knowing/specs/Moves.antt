@@ -34,7 +34,8 @@ module _ {F : Type 0} (same? : Discrete F) (range : F → ℕ) (two : (f : F) �
       go (no p) = allowed (range g) (run rule c g) (two g)
 
   pub exactly : (rule : Rule F F) (k : F → Standing) → Sound range k → (f : F) (v : ℕ)
-      → (know same? range rule k f ≡ known v → AllHave range rule k f v) × (AllHave range rule k f v → know same? range rule k f ≡ known v)
+      → (know same? range rule k f ≡ known v → AllHave range rule k f v)
+      × (AllHave range rule k f v → know same? range rule k f ≡ known v)
   exactly rule k s f v =
       let e = know-exact same? range two range two rule k s f v in (
         λ p c good h x r. e .0 p c good h (x f) (r f),

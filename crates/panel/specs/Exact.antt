@@ -1,6 +1,7 @@
--- Demand 3 for one event, and the report, in the paper's words and as a caller has them: of the part byte, the promise of
--- `hear` or `next_sent`, and number 0. The argument: number 0 is given only where the knowledge is in range and the event
--- is heard, and then the answer is what the event's rule makes of the knowledge, which `knowing` shows to be exact.
+-- Demand 3 for one event, and the report, in the paper's words and as a caller has them: of the part byte, the
+-- promise of `hear` or `next_sent`, and number 0. The argument: number 0 is given only where the knowledge is in
+-- range and the event is heard, and then the answer is what the event's rule makes of the knowledge, which `knowing`
+-- shows to be exact.
 use Prim.Native.Nat.{ℕ}
 use native.Mathlib.Omega.{arith}
 use mathlib.Core.Path.{_≡_, sym, _∙_, subst⁻¹}

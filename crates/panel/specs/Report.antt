@@ -57,8 +57,8 @@ abbrev pub Tells : PartRead → Panel → Report → Type 0
 Tells (IsPart p) k r = TellsPart p k r
 Tells (Refused at) k r = Answers 1 unknown r
 
--- The byte to be sent next, or not driven, is reported exactly if all fitting chips agree on it, else unknown. There are
--- 256 bytes, and not driven. PT6302 has no report.
+-- The byte to be sent next, or not driven, is reported exactly if all fitting chips agree on it, else unknown. There
+-- are 256 bytes, and not driven. PT6302 has no report.
 abbrev pub SegmentExact : Family → Panel → Report → Type 0
 SegmentExact p k r = Exact (range (sizes p)) (λ _. 257) (sent (sizes p)) (kview (k .segment)) tt (says r)
 

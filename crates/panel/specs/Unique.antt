@@ -1,5 +1,5 @@
--- Two answers that meet a promise are equal. The argument: the number and place fix the answer, and what is known of every
--- fact fixes the knowledge.
+-- Two answers that meet a promise are equal. The argument: the number and place fix the answer, and what is known of
+-- every fact fixes the knowledge.
 use Prim.Native.Nat.{ℕ, _<_}
 use native.Mathlib.Omega.{arith}
 use mathlib.Core.Path.{_≡_, refl, sym, ap, _∙_}

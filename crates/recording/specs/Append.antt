@@ -1,5 +1,5 @@
--- One recording behind another. The argument: a record that is whole in the first is the same record in both together, since it looks at no byte past
--- its end; so the walk goes through the first and then through the second.
+-- One recording behind another. The argument: a record that is whole in the first is the same record in both
+-- together, since it looks at no byte past its end; so the walk goes through the first and then through the second.
 use Prim.Native.Nat.{ℕ, zero, suc, _+_, _<_, _≤_}
 use native.Mathlib.Omega.{arith}
 use mathlib.Core.Path.{_≡_, refl, sym, ap, _∙_}
@@ -117,7 +117,8 @@ stopped x at q =
     let z : _≡_ {A = ℕ} 0 1 = cc in
     omega arith
 
--- The walk over both, where the walk over the first is done: the first's events, and then the second's, from the first's end on.
+-- The walk over both, where the walk over the first is done: the first's events, and then the second's, from the
+-- first's end on.
 pub record Joined (whole first second : Walk) : Type 0 where
   pub same : events whole ≡ events first ++ events second
   pub ends : endOf whole ≡ endOf second

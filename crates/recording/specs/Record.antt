@@ -36,7 +36,8 @@ belongs p kind = whether (eqb kind 7 || eqb kind 9) (keyed p) (whether (eqb kind
 abbrev pub bodyOf : ℕ → ℕ
 bodyOf kind = whether (eqb kind 7) 4 (whether (eqb kind 3 || eqb kind 6 || eqb kind 8) 1 0)
 
--- The body values that are allowed: 06 carries 1 to 7, 08 carries 0 to 15; PT6312 uses three key bytes, the fourth is 0.
+-- The body values that are allowed: 06 carries 1 to 7, 08 carries 0 to 15; PT6312 uses three key bytes, the fourth is
+-- 0.
 abbrev pub bitsAllowed : ℕ → Bool
 bitsAllowed n = ltb 0 n && ltb n 8
 
@@ -83,11 +84,14 @@ ofBody p kind l =
     (Is (eventOf kind (getD l 1 0) (getD l 2 0) (getD l 3 0) (getD l 4 0)) (suc (bodyOf kind)))
     (Refused Forbidden)
 
--- Each record is tested by 5, 6, 7, 8, in that order: kind not listed, kind not of this part, body cut short, body value not allowed.
+-- Each record is tested by 5, 6, 7, 8, in that order: kind not listed, kind not of this part, body cut short, body
+-- value not allowed.
 abbrev pub ofKind : Part → ℕ → List ℕ → Read
 ofKind p kind l =
     whether (listed kind)
-    (whether (belongs p kind) (whether (ltb (bodyOf kind) (length l)) (ofBody p kind l) (Refused CutShort)) (Refused Foreign))
+    (whether (belongs p kind)
+    (whether (ltb (bodyOf kind) (length l)) (ofBody p kind l) (Refused CutShort))
+    (Refused Foreign))
     (Refused Unlisted)
 
 abbrev pub front : Part → List ℕ → Read

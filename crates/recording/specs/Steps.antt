@@ -1,5 +1,6 @@
--- The walk over a recording, record by record, as code goes along it: `rest` is what is left of the walk from a place on. The argument: a record has
--- at least one byte and no more than there are, so that as many steps as bytes are enough.
+-- The walk over a recording, record by record, as code goes along it: `rest` is what is left of the walk from a place
+-- on. The argument: a record has at least one byte and no more than there are, so that as many steps as bytes are
+-- enough.
 use Prim.Native.Nat.{ℕ, zero, suc, _+_, _-_, _<_, _≤_}
 use native.Mathlib.Omega.{arith}
 use mathlib.Core.Path.{_≡_, refl, ap, _∙_, subst}
@@ -22,17 +23,17 @@ use Rattle.recording.specs.declared.ending.Ending.the-variants.{Done, St
 use Rattle.recording.specs.Walk.{Walk, done, stops, next, walk, walked, endOf, onGap, behindGap}
 
 -- A record has a first byte, and ends within the bytes.
-Fits : List ℕ → Read → Type 0
-Fits l (Is e m) = (1 ≤ m) × (m ≤ length l)
-Fits l (Refused r) = Unit
+EndsWithin : List ℕ → Read → Type 0
+EndsWithin l (Is e m) = (1 ≤ m) × (m ≤ length l)
+EndsWithin l (Refused r) = Unit
 
-fits : (p : Part) (l : List ℕ) → Fits l (front p l)
-unfolding Fits
-fits p l =
-    whether-all (Fits l) (listed (getD l 0 0)) _ _
-    (λ _. whether-all (Fits l) (belongs p (getD l 0 0)) _ _
-    (λ _. whether-all (Fits l) (ltb (bodyOf (getD l 0 0)) (length l)) _ _
-    (λ e. whether-all (Fits l) (allowed p (getD l 0 0) (getD l 1 0) (getD l 4 0)) _ _
+ends-within : (p : Part) (l : List ℕ) → EndsWithin l (front p l)
+unfolding EndsWithin
+ends-within p l =
+    whether-all (EndsWithin l) (listed (getD l 0 0)) _ _
+    (λ _. whether-all (EndsWithin l) (belongs p (getD l 0 0)) _ _
+    (λ _. whether-all (EndsWithin l) (ltb (bodyOf (getD l 0 0)) (length l)) _ _
+    (λ e. whether-all (EndsWithin l) (allowed p (getD l 0 0) (getD l 1 0) (getD l 4 0)) _ _
     (λ _. let h = ltb-true (bodyOf (getD l 0 0)) (length l) e in (omega arith, omega arith))
     (λ _. tt))
     (λ _. tt))
@@ -40,8 +41,8 @@ fits p l =
     (λ _. tt)
 
 pub record-fits : (p : Part) (l : List ℕ) (e : Event) (m : ℕ) → front p l ≡ Is e m → (1 ≤ m) × (m ≤ length l)
-unfolding Fits
-record-fits p l e m q = subst (Fits l) q (fits p l)
+unfolding EndsWithin
+record-fits p l e m q = subst (EndsWithin l) q (ends-within p l)
 
 -- More steps than bytes change nothing.
 pub enough : (n m : ℕ) (p : Part) (at : ℕ) (l : List ℕ) → length l ≤ n → length l ≤ m → walk n p at l ≡ walk m p at l

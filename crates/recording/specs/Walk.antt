@@ -21,7 +21,8 @@ pub data Walk : Type 0 where
 abbrev pub walk : ℕ → Part → ℕ → List ℕ → Walk
 walk zero p at l = done
 walk (suc n) p at [] = done
-walk (suc n) p at (b ∷ l) = elim (front p (b ∷ l)) [ Is e m ↦ next at e (walk n p (at + m) (drop m (b ∷ l))) | Refused r ↦ stops r at ]
+walk (suc n) p at (b ∷ l) =
+    elim (front p (b ∷ l)) [ Is e m ↦ next at e (walk n p (at + m) (drop m (b ∷ l))) | Refused r ↦ stops r at ]
 
 -- A recording has no more records than bytes.
 abbrev pub walked : Part → List ℕ → Walk

@@ -1,24 +1,23 @@
 -- What is recorded is read back. The argument: the record at the front of a recording is its first event, whole and
 -- allowed; what stands behind it is the recording of the other events. A painting is made of falls, bytes and rises,
 -- which every part has and whose bodies are free, so it is always accepted.
-use Prim.Native.Nat.{ℕ, zero, suc, _+_, _<_, _≤_}
+use Prim.Native.Nat.{ℕ, zero, suc, _+_, _≤_}
 use native.Mathlib.Omega.{arith}
 use mathlib.Core.Path.{_≡_, refl, ap}
-use mathlib.Core.Bool.{true}
 use mathlib.Core.List.{List, [], _∷_, _++_, map}
 use lib.ListN.{length, drop, take, length-append}
 use lib.Seq.{drop-at}
-use borrow.Author.Tests.{lt-ltb}
 use Rattle.terms.specs.declared.Event.{Event}
-use Rattle.terms.specs.declared.Event.the-variants.{Power, Falls, ByteIn, Rises, Gap, Unfinished, Keys, Switches, ByteOut}
+use Rattle.terms.specs.declared.Event.the-variants.{ByteIn, Rises}
 use Rattle.terms.specs.declared.Part.{Part}
 use Rattle.terms.specs.Event.{recorded, recording, strobe}
 use Rattle.recording.specs.declared.read.Read.{Read}
 use Rattle.recording.specs.declared.read.Read.the-variants.{Is, Refused}
 use Rattle.recording.specs.declared.ending.Ending.the-variants.{Done}
-use Rattle.recording.specs.Record.{keyed, switched, fourthAllowed, front}
+use Rattle.recording.specs.Record.{front}
 use Rattle.recording.specs.Walk.{Walk, stops, next, walk, walked, events, endOf}
 use Rattle.recording.specs.Steps.{record-fits}
+use Rattle.recording.specs.Append.{front-append}
 use Rattle.whole.specs.Usual.{Each}
 use Rattle.segment.specs.declared.chip.Sizes.{Sizes}
 use Rattle.character.specs.Value.{lit}
@@ -27,29 +26,14 @@ use Rattle.painting.specs.declared.CharacterPicture.{CharacterPicture}
 use Rattle.painting.specs.Segment as Segment
 use Rattle.painting.specs.Character as Character
 
--- The part has the event, and its body's values are allowed.
+-- A recording can carry the event: its record is read as the event again.
 abbrev pub Recordable : Part → Event → Type 0
-Recordable p Power = Unit
-Recordable p Falls = Unit
-Recordable p (ByteIn b) = Unit
-Recordable p Rises = Unit
-Recordable p Gap = Unit
-Recordable p (Unfinished n) = (0 < n) × (n < 8)
-Recordable p (Keys k0 k1 k2 k3) = (keyed p ≡ true) × (fourthAllowed p k3 ≡ true)
-Recordable p (Switches v) = (switched p ≡ true) × (v < 16)
-Recordable p ByteOut = keyed p ≡ true
+Recordable p e = front p (recorded e) ≡ Is e (length (recorded e))
 
--- The record at the front is the first event, with the length that it was recorded with.
+-- The record at the front is the first event, whatever stands behind it.
 front-recorded : (p : Part) (e : Event) (l : List ℕ) → Recordable p e → front p (recorded e ++ l) ≡ Is e (length (recorded e))
-front-recorded p Power l h = rw (lt-ltb 0 (suc (length l)) (omega arith)) refl
-front-recorded p Falls l h = rw (lt-ltb 0 (suc (length l)) (omega arith)) refl
-front-recorded p (ByteIn b) l h = rw (lt-ltb 1 (suc (suc (length l))) (omega arith)) refl
-front-recorded p Rises l h = rw (lt-ltb 0 (suc (length l)) (omega arith)) refl
-front-recorded p Gap l h = rw (lt-ltb 0 (suc (length l)) (omega arith)) refl
-front-recorded p (Unfinished n) l h = rw (lt-ltb 1 (suc (suc (length l))) (omega arith), lt-ltb 0 n (h .0), lt-ltb n 8 (h .1)) refl
-front-recorded p (Keys k0 k1 k2 k3) l h = rw (h .0, lt-ltb 4 (suc (suc (suc (suc (suc (length l)))))) (omega arith), h .1) refl
-front-recorded p (Switches v) l h = rw (h .0, lt-ltb 1 (suc (suc (length l))) (omega arith), lt-ltb v 16 (h .1)) refl
-front-recorded p ByteOut l h = rw (h, lt-ltb 0 (suc (length l)) (omega arith)) refl
+front-recorded p e l h =
+    front-append p (recorded e) l e (length (recorded e)) (record-fits p (recorded e) e (length (recorded e)) h .0) h
 
 -- A walk goes by the record at the front, with a step left for it.
 walk-next : (n : ℕ) (p : Part) (at : ℕ) (l : List ℕ) (e : Event) (m : ℕ) → length l ≤ n → front p l ≡ Is e m
@@ -88,11 +72,11 @@ record Free (es : List Event) : Type 0 where
 
 -- A strobe is free, and so is what follows it.
 strobed : {es : List Event} (bs : List ℕ) → Free es → Free (strobe bs ++ es)
-strobed {es} bs h = record { each = λ p. (tt, bytes p bs) }
+strobed {es} bs h = record { each = λ p. (refl, bytes p bs) }
   where
     bytes : (p : Part) (l : List ℕ) → Each (Recordable p) ((map ByteIn l ++ (Rises ∷ [])) ++ es)
-    bytes p [] = (tt, h .each p)
-    bytes p (b ∷ l) = (tt, bytes p l)
+    bytes p [] = (refl, h .each p)
+    bytes p (b ∷ l) = (refl, bytes p l)
 
 none : Free []
 none = record { each = λ p. tt }

@@ -118,7 +118,8 @@ module _ (p : Part) (k : Panel) (l : List ℕ) (start : ℕ) (r : Replayed) (met
 
   -- Refused by 5, 6, 7 or 8: the records stop at one that is none, at its place.
   pub record-refused : 5 ≤ number (r .answer)
-      → (x : Refusal) × (at : Place) × (endOf (walked p (drop start l)) ≡ Stops x at) × RefusedBy (Record.number x) (start + at .0) k r
+      → (x : Refusal) × (at : Place) × (endOf (walked p (drop start l)) ≡ Stops x at)
+      × RefusedBy (Record.number x) (start + at .0) k r
   record-refused five = go met
     where
       by : (e : Ending) → endOf (walked p (drop start l)) ≡ e → ByEnding e start k r (PartDone p (events (walked p (drop start l))) k l r)

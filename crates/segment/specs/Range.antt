@@ -65,13 +65,13 @@ position-fits Open = omega arith
 position-fits Ignoring = omega arith
 
 -- What a command carries is in range.
-abbrev pub Carries : Sizes → Command → Type 0
-Carries s (Mode m) = m < suc (s .top)
-Carries s Test = Unit
-Carries s (Setting d i) = data-mode d < range s dataMode
-Carries s (AnySetting i) = Unit
-Carries s (Control d o) = d < 8
-Carries s (Start a) = pointer a < suc (s .cells)
+abbrev pub CommandInRange : Sizes → Command → Type 0
+CommandInRange s (Mode m) = m < suc (s .top)
+CommandInRange s Test = Unit
+CommandInRange s (Setting d i) = data-mode d < range s dataMode
+CommandInRange s (AnySetting i) = Unit
+CommandInRange s (Control d o) = d < 8
+CommandInRange s (Start a) = pointer a < suc (s .cells)
 
 two-at-least : (t : Bool) → 2 < whether t 4 3
 two-at-least true = omega arith
@@ -80,24 +80,24 @@ two-at-least false = omega arith
 three-if : (t : Bool) → t ≡ true → 3 < whether t 4 3
 three-if t e = rw e (omega arith)
 
-setting-carries : (s : Sizes) (b : ℕ) → Carries s (settingOf s b)
-setting-carries s b =
+setting-in-range : (s : Sizes) (b : ℕ) → CommandInRange s (settingOf s b)
+setting-in-range s b =
     let h = two-at-least (s .switched) in
-    whether-all (Carries s) (bit 3 b) _ _ (λ _. tt)
-    (λ _. of4-all (Carries s) _ _ _ _ (omega arith) (omega arith) h
-    (whether-all (Carries s) (s .switched) _ _ (three-if (s .switched)) (λ _. tt))
+    whether-all (CommandInRange s) (bit 3 b) _ _ (λ _. tt)
+    (λ _. of4-all (CommandInRange s) _ _ _ _ (omega arith) (omega arith) h
+    (whether-all (CommandInRange s) (s .switched) _ _ (three-if (s .switched)) (λ _. tt))
     (b % 4))
 
-pointer-carries : (s : Sizes) (b : ℕ) → pointer (pointerOf s b) < suc (s .cells)
-pointer-carries s b =
+pointer-in-range : (s : Sizes) (b : ℕ) → pointer (pointerOf s b) < suc (s .cells)
+pointer-in-range s b =
     whether-all (λ (p : Pointer). pointer p < suc (s .cells)) (ltb (b % s .addresses) (s .cells)) _ _
     (λ t. omega (arith, ltb-true (b % s .addresses) (s .cells) t))
     (λ _. omega arith)
 
-pub command-carries : (s : Sizes) (b : ℕ) → Carries s (commandOf s b)
-command-carries s b =
-    of4-all (Carries s) (Mode (modeOf s b)) (settingOf s b) (Control (b % 8) (displayOf b)) (Start (pointerOf s b))
-    (omega arith) (setting-carries s b) (omega arith) (pointer-carries s b)
+pub command-in-range : (s : Sizes) (b : ℕ) → CommandInRange s (commandOf s b)
+command-in-range s b =
+    of4-all (CommandInRange s) (Mode (modeOf s b)) (settingOf s b) (Control (b % 8) (displayOf b)) (Start (pointerOf s b))
+    (omega arith) (setting-in-range s b) (omega arith) (pointer-in-range s b)
     (b / 64)
 
 module _ (s : Sizes) (p : Proper s) where
@@ -124,7 +124,7 @@ module _ (s : Sizes) (p : Proper s) where
   setting-fits : (i : Stepping) → InRange same? (range s) (sets stepping (steps i) (sets readCount 0 (then Open)))
   setting-fits i = sets-fit stepping (steps i) _ (steps-fit i) (sets-fit readCount 0 _ (omega arith) (then-fits Open))
 
-  commanded-fits : (m : Command) → Carries s m → Fine (commanded m)
+  commanded-fits : (m : Command) → CommandInRange s m → Fine (commanded m)
   commanded-fits (Mode m) h = λ old _. mode-fits m old h
   commanded-fits Test h =
       every _ (λ i. tt) tt tt tt tt tt tt tt (λ i. omega arith) (omega arith) tt (omega arith)
@@ -153,7 +153,7 @@ module _ (s : Sizes) (p : Proper s) where
   byte-fits b q h =
       of4-all Fine _ _ _ _
       kept
-      (commanded-fits (commandOf s b) (command-carries s b))
+      (commanded-fits (commandOf s b) (command-in-range s b))
       (λ d _. of4-all Fine _ _ _ _ (λ a _. stored-fits b a h) (sets-fit led (b % 16) _ (omega arith) kept) kept kept d)
       kept
       q

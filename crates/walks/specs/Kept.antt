@@ -1,4 +1,5 @@
--- What stays the same while code walks: what is left of the walk makes of the knowledge so far what the whole walk makes of the first one.
+-- What stays the same while code walks: what is left of the walk makes of the knowledge so far what the whole walk
+-- makes of the first one.
 use Prim.Native.Nat.{ℕ}
 use mathlib.Core.Path.{_≡_, refl, sym, _∙_, subst}
 use mathlib.Core.List.{map}
