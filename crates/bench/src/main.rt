@@ -6,7 +6,8 @@ mod characters;
 mod segments;
 mod sum;
 
-use libc::STDIN_FILENO;
+use input::Input;
+use input::read_input;
 use libc::STDOUT_FILENO;
 use panel::Panel;
 use replay::Answer;
@@ -15,22 +16,46 @@ use sum::Sum;
 use terms::Part;
 use terms::PartRead;
 use terms::Place;
+ghost use mathlib.Core.Path.{_≡_};
+ghost use Prim.Native.Nat.{_+_, _*_};
+ghost use lib.ListN.{getD};
 
+// As the mirror does, it takes a byte more than the longest recording that is allowed.
 fn main() {
-    let mut buffer = [0u8; 65539];
-    let n = io::read_full(STDIN_FILENO, &mut buffer);
-    let rounds = count(buffer[0], buffer[1]);
-    let part = buffer[2];
-    let sum = if n < 3 {
-        summed(rounds, part, &buffer[..0])
-    } else {
-        summed(rounds, part, &buffer[3..n])
-    };
-    io::print_decimal(STDOUT_FILENO, sum.0 as u64);
-    io::write_all(STDOUT_FILENO, b"\n");
+    let mut input = [0u8; 65539];
+    match read_input(&mut input) {
+        Input::Whole(n) => print(measured(&input[..n])),
+        Input::Full => print(measured(&input)),
+        Input::Failed => os::fail(b"bench: the input could not be read to its end"),
+    }
 }
 
-fn count(low: u8, high: u8) -> usize {
+fn print(sum: Sum) {
+    if io::print_decimal(STDOUT_FILENO, sum.0 as u64) && io::write_all(STDOUT_FILENO, b"\n") {
+        return;
+    }
+    os::fail(b"bench: the checksum could not be written whole");
+}
+
+fn measured(input: &[u8]) -> Sum {
+    let rounds = count(byte(input, 0), byte(input, 1));
+    let part = byte(input, 2);
+    if input.len() < 3 {
+        return summed(rounds, part, &input[..0]);
+    }
+    summed(rounds, part, &input[3..])
+}
+
+// A byte that is missing counts as 0.
+fn byte(input: &[u8], i: usize) -> u8
+    ensures { λ r. ⌜ r ≡ getD (now (input .entry)) i 0 ⌝ }
+{
+    if i < input.len() { input[i] } else { 0 }
+}
+
+fn count(low: u8, high: u8) -> usize
+    ensures { λ r. ⌜ r ≡ low + high * 256 ⌝ }
+{
     low as usize + high as usize * 256
 }
 

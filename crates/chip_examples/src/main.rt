@@ -5,12 +5,24 @@ mod print;
 mod reader;
 mod segments;
 
+use input::Input;
+use input::read_input;
+use libc::STDERR_FILENO;
 use reader::Reader;
 
+// A byte more than is taken shows that the input is longer.
 fn main() {
     let mut buffer = io::large_buffer();
-    let n = io::read_full(0, &mut buffer);
-    run(&buffer[..n]);
+    match read_input(&mut buffer) {
+        Input::Whole(n) => run(&buffer[..n]),
+        Input::Full => {
+            io::write_all(
+                STDERR_FILENO,
+                b"chip_examples: the input is longer than 65,535 bytes\n",
+            );
+        }
+        Input::Failed => os::fail(b"chip_examples: the input could not be read to its end"),
+    }
 }
 
 fn run(examples: &[u8]) {

@@ -1,30 +1,51 @@
-// The mirror: reads the part byte and a recording from standard input, and prints what is known of the panel afterwards, or why not.
-use libc::STDIN_FILENO;
+// The mirror: reads the part byte and a recording from standard input, and prints what is known of the panel afterwards, or why not. Where the input
+// cannot be read to its end it prints nothing, since a recording that is cut must never pass for a whole one.
+use input::Input;
+use input::read_input;
 use libc::STDOUT_FILENO;
 use replay::Replayed;
 use terms::Place;
+ghost use Rattle.mirror.specs.Mirror.{partByte, behind, FromNothing, Shows};
 
-// The part byte, the longest recording that is allowed, and one byte more, which shows that a recording is too long. Where nothing is read, the part
-// byte is 0, which names no part.
+// The part byte, the longest recording that is allowed, and one byte more, which shows that a recording is too long.
 fn main() {
     let mut input = [0u8; 65537];
-    let n = io::read_full(STDIN_FILENO, &mut input);
-    let part = input[0];
-    if n < 1 {
-        print(part, replayed(part, &input[..0]));
-    } else {
-        print(part, replayed(part, &input[1..n]));
+    match read_input(&mut input) {
+        Input::Whole(n) => print(&input[..n]),
+        Input::Full => print(&input),
+        Input::Failed => os::fail(b"mirror: the input could not be read to its end"),
     }
 }
 
-fn replayed(part: u8, recording: &[u8]) -> Replayed {
-    replay::replay(part, panel::nothing_known(), recording, Place(0))
+fn print(input: &[u8]) {
+    let mut out = [0u8; page::ROOM];
+    let length = mirrored(input, &mut out);
+    if !io::write_all(STDOUT_FILENO, &out[..length]) {
+        os::fail(b"mirror: the page could not be written whole");
+    }
 }
 
-fn print(part: u8, replayed: Replayed) {
-    let mut out = [0u8; page::ROOM];
-    let answer = replayed.answer;
-    let panel = replayed.panel;
-    let length = page::write_page(part, answer, panel, &mut out);
-    io::write_all(STDOUT_FILENO, &out[..length]);
+// Writes the page of an input to the front of `out`, and gives its length. Empty input has the part byte 0, which names no part.
+fn mirrored(input: &[u8], out: &mut [u8]) -> usize
+    ensures { λ r. ⌜ Shows (partByte (now (input .entry))) (behind (now (input .entry))) (now (out .entry)) r (now (out .exit)) ⌝ }
+{
+    if input.len() == 0 {
+        return shown(0, input, out);
+    }
+    shown(input[0], &input[1..], out)
+}
+
+fn shown(part: u8, recording: &[u8], out: &mut [u8]) -> usize
+    ensures { λ r. ⌜ Shows part (now (recording .entry)) (now (out .entry)) r (now (out .exit)) ⌝ }
+{
+    let after = replayed(part, recording);
+    let answer = after.answer;
+    let panel = after.panel;
+    page::write_page(part, answer, panel, out)
+}
+
+fn replayed(part: u8, recording: &[u8]) -> Replayed
+    ensures { λ r. ⌜ FromNothing part (now (recording .entry)) r ⌝ }
+{
+    replay::replay(part, panel::nothing_known(), recording, Place(0))
 }

@@ -22,11 +22,23 @@ mod panels;
 use example_text::Line;
 use example_text::Word;
 use example_text::character;
+use input::Input;
+use input::read_input;
+use libc::STDERR_FILENO;
 
+// A byte more than is taken shows that the input is longer.
 fn main() {
     let mut buffer = io::large_buffer();
-    let n = io::read_full(0, &mut buffer);
-    run(&buffer[..n]);
+    match read_input(&mut buffer) {
+        Input::Whole(n) => run(&buffer[..n]),
+        Input::Full => {
+            io::write_all(
+                STDERR_FILENO,
+                b"panel_examples: the input is longer than 65,535 bytes\n",
+            );
+        }
+        Input::Failed => os::fail(b"panel_examples: the input could not be read to its end"),
+    }
 }
 
 // What is known is a value of its own, beside what was read, so that only what changes it is about it.

@@ -22,12 +22,24 @@ mod starts;
 use example::Example;
 use example_text::Word;
 use example_text::character;
+use input::Input;
+use input::read_input;
+use libc::STDERR_FILENO;
 
+// A byte more than is taken shows that the input is longer.
 fn main() {
     let mut buffer = io::large_buffer();
-    let n = io::read_full(0, &mut buffer);
     let mut memory = [0u8; 65600];
-    run(&buffer[..n], &mut memory);
+    match read_input(&mut buffer) {
+        Input::Whole(n) => run(&buffer[..n], &mut memory),
+        Input::Full => {
+            io::write_all(
+                STDERR_FILENO,
+                b"replay_examples: the input is longer than 65,535 bytes\n",
+            );
+        }
+        Input::Failed => os::fail(b"replay_examples: the input could not be read to its end"),
+    }
 }
 
 fn run(examples: &[u8], memory: &mut [u8]) {
