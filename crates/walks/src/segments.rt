@@ -3,6 +3,7 @@ use recording::Ending;
 use recording::Read;
 use recording::record_at;
 use segment::Family;
+use segment_knowledge::Control;
 use segment_knowledge::Knowledge;
 use segment_known::Target;
 use segment_known::command_in;
@@ -24,12 +25,19 @@ pub struct SegmentWalked {
     pub k: Knowledge,
 }
 
-// The cells are changed where they stand. The events of every day have arms of their own, and cost no call.
 pub fn segment_walk(part: Part, family: Family, k: Knowledge, bytes: &[u8]) -> SegmentWalked
     ensures { λ r. ⌜ Walks part family k (now (bytes .entry)) r ⌝ }
 {
-    let mut cells = k.cells;
-    let mut control = k.control;
+    let first = k.cells;
+    walk(part, family, first, k.control, bytes)
+}
+
+// From the first knowledge, its cells and what was known beside them. The cells are changed where they stand. The events of every day have arms of their own, and cost no call.
+fn walk(part: Part, family: Family, first: [u16; 36], was: Control, bytes: &[u8]) -> SegmentWalked
+    ensures { λ r. ⌜ Walks part family (record { cells = first; control = was }) (now (bytes .entry)) r ⌝ }
+{
+    let mut cells = first;
+    let mut control = was;
     let mut i = 0;
     while i < bytes.len() {
         let read = record_at(part, bytes, Place(i));
@@ -68,7 +76,10 @@ pub fn segment_walk(part: Part, family: Family, k: Knowledge, bytes: &[u8]) -> S
             Read::Refused(refusal) => {
                 return SegmentWalked {
                     ending: Ending::Stops(refusal, Place(i)),
-                    k,
+                    k: Knowledge {
+                        cells: first,
+                        control: was,
+                    },
                 };
             }
         }
