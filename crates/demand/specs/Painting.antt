@@ -21,8 +21,8 @@ use Rattle.parts.specs.Facts.{Fact, same?, range, move}
 use Rattle.painting.specs.declared.Picture.{Picture}
 use Rattle.painting.specs.Picture.{Shaped, PictureInRange, eventsFor, paintedBy, OneEnd}
 use Rattle.painting.specs.Demand.{painting-paints}
-use Rattle.painter.specs.declared.Painted.{Painted}
-use Rattle.painter.specs.Answer as Paint
+use Rattle.painting.specs.declared.Painted.{Painted}
+use Rattle.painting.specs.Answer as Paint
 use Rattle.painter.specs.ByPart.{sizeFor, painting-length, paint-done, paint-front}
 use Rattle.panel.specs.declared.knowledge.Panel.{Panel}
 use Rattle.panel.specs.View.{knownOf, OtherKept}

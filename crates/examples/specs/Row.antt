@@ -23,7 +23,7 @@ use Rattle.segment.specs.Sent.{sent}
 use Rattle.character.specs.Fact as Character
 use Rattle.character.specs.Move as CharacterMove
 use Rattle.painting.specs.declared.Picture.{Picture}
-use Rattle.painter.specs.Answer as Painter
+use Rattle.painting.specs.Answer as Painter
 
 -- What a row speaks of: a fact of PT6312 or PT6315, a fact of PT6302, or the byte to be sent next.
 pub data What : Type 0 where

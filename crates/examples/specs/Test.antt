@@ -8,7 +8,7 @@ use lib.Dec.{eqb}
 use borrow.Author.Tests.{eqb-true}
 use Rattle.rules.specs.Choice.{both}
 use Rattle.knowing.specs.Standing.{Standing, known, unknown}
-use Rattle.painter.specs.Answer.{output}
+use Rattle.painting.specs.Answer.{output}
 use Rattle.examples.specs.Row.{What, Said, _is_, Row, replayed, painted, known-after, read-number, read-place, paint-number, paint-place, AsSaid, Holds, AllHold}
 
 -- Two standings are the same, and two lists.

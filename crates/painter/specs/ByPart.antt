@@ -24,12 +24,12 @@ use Rattle.painting.specs.declared.SegmentPicture.{SegmentPicture}
 use Rattle.painting.specs.Segment as Segment
 use Rattle.painting.specs.Character as Character
 use Rattle.painting.specs.Picture.{Shaped, PictureInRange, eventsFor}
-use Rattle.painter.specs.declared.Painted.{Painted}
-use Rattle.painter.specs.declared.Painted.the-variants.{Done}
-use Rattle.painter.specs.Answer.{place, segmentSize, characterSize, answerFor, answer, streamFor, written, output}
-use Rattle.painter.specs.Fits.{fits-segment, fits-character}
-use Rattle.painter.specs.Laws.{size-is}
-use Rattle.painter.specs.Stream.{five-length, seven-length}
+use Rattle.painting.specs.declared.Painted.{Painted}
+use Rattle.painting.specs.declared.Painted.the-variants.{Done}
+use Rattle.painting.specs.Answer.{place, segmentSize, characterSize, answerFor, answer, streamFor, written, output}
+use Rattle.painting.specs.Fits.{fits-segment, fits-character}
+use Rattle.segment_painter.specs.Five.{five-length, size-is}
+use Rattle.character_painter.specs.Seven.{seven-length}
 
 -- The size of a painting of the part, in bytes: 172, 66 or 94.
 abbrev pub sizeFor : Part → ℕ

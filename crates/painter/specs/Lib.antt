@@ -1,5 +1,1 @@
-pub mod Fits
-pub mod Answer
-pub mod Stream
-pub mod Laws
 pub mod ByPart

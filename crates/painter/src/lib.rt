@@ -1,9 +1,6 @@
 // The painter: a part byte, a wanted picture and a lent output become the recording that paints the picture.
 
-mod characters;
-mod segments;
-mod stream;
-
+use painting::Painted;
 use painting::Picture;
 use terms::Part;
 use terms::PartRead;
@@ -11,19 +8,7 @@ use terms::Place;
 ghost use mathlib.Core.Path.{_≡_};
 ghost use lib.ListN.{length};
 ghost use Rattle.terms.specs.Part.{partOf};
-ghost use Rattle.painter.specs.Answer.{answer, output, number, place, numberFor, placeFor};
-
-// What a painting comes to.
-pub enum Painted {
-    // Painted: the length of the recording that was written.
-    Done(Place),
-    // The part byte names no part.
-    NoPart(Place),
-    // A value of the picture is out of its range.
-    OutOfRange(Place),
-    // The output is too small.
-    TooSmall(Place),
-}
+ghost use Rattle.painting.specs.Answer.{answer, output, number, place, numberFor, placeFor};
 
 // Writes the recording that paints the picture to the front of `out`. A refused painting writes nothing.
 pub fn paint(part: u8, picture: Picture, out: &mut [u8]) -> Painted
@@ -34,9 +19,9 @@ pub fn paint(part: u8, picture: Picture, out: &mut [u8]) -> Painted
     let character = picture.character;
     match terms::part_of(part) {
         PartRead::Is(known) => match known {
-            Part::Pt6302 => characters::paint(character, out),
-            Part::Pt6312 => segments::paint(segment::Family::Pt6312, segment, out),
-            Part::Pt6315 => segments::paint(segment::Family::Pt6315, segment, out),
+            Part::Pt6302 => character_painter::paint(character, out),
+            Part::Pt6312 => segment_painter::paint(segment::Family::Pt6312, segment, out),
+            Part::Pt6315 => segment_painter::paint(segment::Family::Pt6315, segment, out),
         },
         PartRead::Refused(place) => Painted::NoPart(place),
     }

@@ -4,3 +4,6 @@ pub mod Character
 pub mod CharacterLeads
 pub mod Picture
 pub mod Demand
+pub mod Fits
+pub mod Answer
+pub mod AnswerLaws

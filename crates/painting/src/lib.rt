@@ -1,6 +1,7 @@
 // The wanted picture of a panel, by value. What paints it, and that this leads every chip to the picture, stands in specs/.
 use character::Lights;
 use segment::Display;
+use terms::Place;
 
 // A picture of a PT6312 or PT6315 panel: its memory and the settings that a painting sets.
 pub struct SegmentPicture {
@@ -27,4 +28,16 @@ pub struct CharacterPicture {
 pub struct Picture {
     pub segment: SegmentPicture,
     pub character: CharacterPicture,
+}
+
+// What a painting comes to.
+pub enum Painted {
+    // Painted: the length of the recording that was written.
+    Done(Place),
+    // The part byte names no part.
+    NoPart(Place),
+    // A value of the picture is out of its range.
+    OutOfRange(Place),
+    // The output is too small.
+    TooSmall(Place),
 }

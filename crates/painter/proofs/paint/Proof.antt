@@ -3,9 +3,9 @@
 use Prim.Native.Nat.{ℕ}
 use lib.ListN.{length}
 use Rattle.painting.specs.declared.Picture.{Picture}
-use Rattle.painter.specs.declared.Painted.{Painted}
-use Rattle.painter.specs.Answer.{answer, number, place, numberFor, placeFor}
-use Rattle.painter.specs.Laws.{answer-number}
+use Rattle.painting.specs.declared.Painted.{Painted}
+use Rattle.painting.specs.Answer.{answer, number, place, numberFor, placeFor}
+use Rattle.painting.specs.AnswerLaws.{answer-number}
 use mathlib.Core.Path.{_≡_, _∙_, sym, ap, refl}
 use Rattle.terms.specs.declared.Part.the-variants.{Pt6302, Pt6312, Pt6315}
 use Rattle.terms.specs.declared.PartRead.the-variants.{Is}
