@@ -113,7 +113,7 @@ fn anything(any: Anything) {
 }
 
 fn next(family: Family, chip: Segment) {
-    match segment_machine::sent_next(family, chip) {
+    match segment_sends::sent_next(family, chip) {
         Sent::Byte(byte) => print::number(b"; sends ", byte),
         Sent::NotDriven => print::text(b"; not driven"),
     }

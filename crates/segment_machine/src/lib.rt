@@ -3,7 +3,5 @@ mod bytes;
 mod commanded;
 mod latches;
 mod moves;
-mod sent;
 
 pub use moves::moved;
-pub use sent::sent_next;

@@ -1,4 +1,4 @@
--- `segment_machine::sent::key_sent` meets its contract: the test is the rule's own, and where it holds the number is one of the key bytes.
+-- `segment_sends::key_sent` meets its contract: the test is the rule's own, and where it holds the number is one of the key bytes.
 -- Assumes nothing.
 use Prim.Native.Nat.{_<_}
 use mathlib.Core.Path.{sym, ap}
@@ -8,8 +8,8 @@ use native.Mathlib.Omega.{arith}
 use borrow.Author.Tests.{lt-ltb, le-ltb}
 use Rattle.segment.specs.Laws.{room}
 use borrow.Author.Needs.{needs}
-use Rattle.segment_machine.proofs.sent.key_sent.Statement.{statement}
-use Rattle.segment_machine.proofs.sent.key_sent.Tie as tie
+use Rattle.segment_sends.proofs.key_sent.Statement.{statement}
+use Rattle.segment_sends.proofs.key_sent.Tie as tie
 
 sizes-requires : tie.Need-sizes-requires
 sizes-requires c κs = search needs

@@ -1,4 +1,4 @@
-// The byte to be sent next.
+// The byte that a PT6312 or PT6315 sends next, by the rule of `segment`.
 use segment::Data;
 use segment::Family;
 use segment::Position;

@@ -1,8 +1,8 @@
--- `segment_machine::sent::switches_sent` meets its contract: the test is the rule's own.
+-- `segment_sends::switches_sent` meets its contract: the test is the rule's own.
 -- Assumes nothing.
 use borrow.Author.Tests.{eq-eqb, ne-eqb}
-use Rattle.segment_machine.proofs.sent.switches_sent.Statement.{statement}
-use Rattle.segment_machine.proofs.sent.switches_sent.Tie as tie
+use Rattle.segment_sends.proofs.switches_sent.Statement.{statement}
+use Rattle.segment_sends.proofs.switches_sent.Tie as tie
 
 returns : tie.Need-returns
 returns c = simp (eq-eqb _ _ (c .if1 .taken))

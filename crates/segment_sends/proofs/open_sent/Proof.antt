@@ -1,4 +1,4 @@
--- `segment_machine::sent::open_sent` meets its contract: each arm knows its data mode.
+-- `segment_sends::open_sent` meets its contract: each arm knows its data mode.
 -- Assumes nothing.
 use mathlib.Core.Path.{ap}
 use mathlib.Core.Path.{refl}
@@ -7,8 +7,8 @@ use Rattle.segment.specs.Family.{sizes}
 use Rattle.segment.specs.Value.{data-mode}
 use Rattle.segment.specs.Sent.{openSent}
 use borrow.Author.Needs.{needs}
-use Rattle.segment_machine.proofs.sent.open_sent.Statement.{statement}
-use Rattle.segment_machine.proofs.sent.open_sent.Tie as tie
+use Rattle.segment_sends.proofs.open_sent.Statement.{statement}
+use Rattle.segment_sends.proofs.open_sent.Tie as tie
 
 enum-told : tie.Need-enum-told
 enum-told c = search needs

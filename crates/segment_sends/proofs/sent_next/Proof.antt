@@ -1,4 +1,4 @@
--- `segment_machine::sent::sent_next` meets its contract: each arm knows its position.
+-- `segment_sends::sent_next` meets its contract: each arm knows its position.
 -- Assumes nothing.
 use mathlib.Core.Path.{ap}
 use mathlib.Core.Path.{refl}
@@ -7,8 +7,8 @@ use Rattle.segment.specs.Family.{sizes}
 use Rattle.segment.specs.Value.{at-position}
 use Rattle.segment.specs.Sent.{sentAt}
 use borrow.Author.Needs.{needs}
-use Rattle.segment_machine.proofs.sent.sent_next.Statement.{statement}
-use Rattle.segment_machine.proofs.sent.sent_next.Tie as tie
+use Rattle.segment_sends.proofs.sent_next.Statement.{statement}
+use Rattle.segment_sends.proofs.sent_next.Tie as tie
 
 enum-told : tie.Need-enum-told
 enum-told c = search needs
