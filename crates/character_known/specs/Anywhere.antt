@@ -10,9 +10,9 @@ use Rattle.standing.specs.Together.{plain-together, together-plain}
 use Rattle.character.specs.Fact.{position}
 use Rattle.character.specs.Move.{byteIn}
 use Rattle.character_knowledge.specs.declared.control.Control.{Control}
-use Rattle.character_known.specs.declared.steps.Step.{Step}
-use Rattle.character_known.specs.Step.{Steps, Both, AllPlain}
-use Rattle.character_known.specs.Steps.{AllTogether, plain-first, plain-second, plain-both, Goes, first-step, next-step, all-steps}
+use Rattle.character_steps.specs.declared.steps.Step.{Step}
+use Rattle.character_steps.specs.Step.{Steps, Both, AllPlain}
+use Rattle.character_steps.specs.Steps.{AllTogether, plain-first, plain-second, plain-both, Goes, first-step, next-step, all-steps}
 
 -- Idle, the first byte, to DCRAM, to CGRAM, to ADRAM, ignoring; v, w, x, y and r are what the ways so far have in common.
 pub six-ways : (b : ℕ) (c : Control) (i f d g a n v w x y r : Step) → stands (c .position) ≡ unknown

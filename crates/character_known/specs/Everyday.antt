@@ -12,11 +12,11 @@ use Rattle.character.specs.Fact.{dcramAt, cgramAt, adramAt, column, position}
 use Rattle.character.specs.Move.{shown, marked, drawn, byteIn, move}
 use Rattle.character_knowledge.specs.declared.control.Control.{Control}
 use Rattle.character_knowledge.specs.View.{points}
-use Rattle.character_known.specs.declared.steps.Step.{Step}
+use Rattle.character_steps.specs.declared.steps.Step.{Step}
 use Rattle.character_known.specs.declared.everyday.Target.{Target}
 use Rattle.character_known.specs.declared.everyday.Target.the-variants.{Shown, Drawn, Marked, Elsewhere}
-use Rattle.character_known.specs.Step.{Steps}
-use Rattle.character_known.specs.Steps.{known-step}
+use Rattle.character_steps.specs.Step.{Steps}
+use Rattle.character_steps.specs.Steps.{known-step}
 
 -- At DCRAM, and the address is cell n.
 pub record Showing (c : Control) (n : ℕ) : Type 0 where

@@ -1,5 +1,3 @@
-pub mod Step
-pub mod Steps
 pub mod Anywhere
 pub mod Row
 pub mod Cells

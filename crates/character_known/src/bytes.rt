@@ -1,9 +1,6 @@
 // What a byte clocked in makes of a knowledge.
 use crate::columns::to_draw;
 use crate::commanded::first_in;
-use crate::steps::Step;
-use crate::steps::both_steps;
-use crate::steps::kept;
 use character_knowledge::ADRAM;
 use character_knowledge::CGRAM;
 use character_knowledge::Control;
@@ -13,6 +10,9 @@ use character_knowledge::IDLE;
 use character_knowledge::IGNORING;
 use character_knowledge::Pointing;
 use character_knowledge::at;
+use character_steps::Step;
+use character_steps::both_steps;
+use character_steps::kept;
 use standing::Change;
 use standing::Standing;
 use terms::Address;
@@ -23,7 +23,7 @@ ghost use Rattle.character.specs.Fact.{position, dcramAt, adramAt};
 ghost use Rattle.character.specs.Move.{shown, marked, byteIn};
 ghost use Rattle.standing.specs.View.{stands};
 ghost use Rattle.standing.specs.Change.{Plain};
-ghost use Rattle.character_known.specs.Step.{Steps};
+ghost use Rattle.character_steps.specs.Step.{Steps};
 
 pub fn byte_in(c: Control, byte: u8) -> Step
     ensures { λ r. ⌜ Steps (look position (byteIn byte)) c r ⌝ }

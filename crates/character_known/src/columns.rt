@@ -1,8 +1,8 @@
 // What a column clocked in makes of a knowledge: it goes to CGRAM, and the other RAMs stay. Where the character or the column is unknown, it may be
 // in any of several places.
-use crate::steps::Step;
 use character_knowledge::Control;
 use character_knowledge::Pointing;
+use character_steps::Step;
 use standing::Change;
 use standing::Standing;
 use terms::Address;
@@ -14,7 +14,7 @@ ghost use Rattle.character.specs.Move.{drawn};
 ghost use Rattle.standing.specs.View.{stands};
 ghost use Rattle.standing.specs.Change.{Plain};
 ghost use Rattle.character_knowledge.specs.View.{points};
-ghost use Rattle.character_known.specs.Step.{Steps};
+ghost use Rattle.character_steps.specs.Step.{Steps};
 
 pub fn to_draw(c: Control, byte: u8) -> Step
     ensures { λ r. ⌜ (Steps (look cgramAt (λ a. look column (drawn byte a))) c r) × ((Plain (r .dcram)) × (Plain (r .adram))) ⌝ }

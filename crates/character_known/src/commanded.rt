@@ -1,7 +1,4 @@
 // What a first byte makes of a knowledge.
-use crate::steps::Step;
-use crate::steps::forgotten;
-use crate::steps::kept;
 use character::Command;
 use character::Lights;
 use character::command_of;
@@ -16,6 +13,9 @@ use character_knowledge::ON;
 use character_knowledge::Pointing;
 use character_knowledge::at;
 use character_knowledge::no_control;
+use character_steps::Step;
+use character_steps::forgotten;
+use character_steps::kept;
 use standing::Standing;
 use terms::Address;
 ghost use mathlib.Core.Path.{_≡_};
@@ -23,7 +23,7 @@ ghost use Rattle.rules.specs.Rule.{gives};
 ghost use Rattle.character.specs.Command.{commandOf};
 ghost use Rattle.character.specs.Move.{commanded};
 ghost use Rattle.character.specs.Value.{lit};
-ghost use Rattle.character_known.specs.Step.{Keeps, Steps, AllPlain};
+ghost use Rattle.character_steps.specs.Step.{Keeps, Steps, AllPlain};
 
 // Every RAM stays, or an undefined command leaves nothing known of any.
 pub fn first_in(c: Control, byte: u8) -> Step

@@ -19,7 +19,7 @@ ghost use Rattle.terms.specs.declared.Event.the-variants.{Falls, Rises, ByteIn}
 ghost use Rattle.character.specs.declared.chip.Position.the-variants.{Dcram, Cgram, Adram};
 ghost use Rattle.character.specs.Value.{at-position};
 ghost use Rattle.character.specs.Move.{move};
-ghost use Rattle.character_known.specs.Step.{Keeps, Steps};
+ghost use Rattle.character_steps.specs.Step.{Keeps, Steps};
 ghost use Rattle.character_known.specs.Everyday.{Showing, Drawing, Marking, Hits, columnAt};
 
 pub fn falls(c: Control) -> Control

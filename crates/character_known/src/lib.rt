@@ -4,7 +4,6 @@ mod columns;
 mod commanded;
 mod everyday;
 mod moves;
-mod steps;
 
 pub use everyday::Target;
 pub use everyday::column_at;

@@ -1,8 +1,5 @@
 // What each event makes of a knowledge.
 use crate::bytes::byte_in;
-use crate::steps::Step;
-use crate::steps::forgotten;
-use crate::steps::kept;
 use character_knowledge::Control;
 use character_knowledge::FIRST;
 use character_knowledge::IDLE;
@@ -10,17 +7,20 @@ use character_knowledge::Knowledge;
 use character_knowledge::OFF;
 use character_knowledge::Pointing;
 use character_knowledge::at;
-use character_knowledge::no_control;
+use character_steps::Step;
+use character_steps::forgotten;
+use character_steps::kept;
+use character_steps::lost;
 use standing::Standing;
 use standing::apply;
 use terms::Address;
 use terms::Event;
 ghost use mathlib.Core.Path.{_≡_};
 ghost use lib.ListN.{length};
-ghost use Rattle.rules.specs.Rule.{gives, free};
+ghost use Rattle.rules.specs.Rule.{gives};
 ghost use Rattle.character.specs.Move.{powered, move};
 ghost use Rattle.character_knowledge.specs.View.{Knows};
-ghost use Rattle.character_known.specs.Step.{Steps};
+ghost use Rattle.character_steps.specs.Step.{Steps};
 
 // What an event does, by what is known beside the memory. Keys, switches and bytes out are no events of this part, and change nothing.
 fn step(c: Control, event: Event) -> Step
@@ -37,14 +37,6 @@ fn step(c: Control, event: Event) -> Step
         Event::Switches(_) => kept(c),
         Event::ByteOut => kept(c),
     }
-}
-
-// Whatever was known, events were lost.
-fn lost(c: Control) -> Step
-    ensures { λ r. ⌜ Steps (gives (λ f. free)) c r ⌝ }
-{
-    let control = no_control();
-    forgotten(control)
 }
 
 fn at_power(c: Control) -> Step

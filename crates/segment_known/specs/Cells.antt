@@ -24,8 +24,8 @@ use Rattle.segment_knowledge.specs.declared.control.Control.{Control}
 use Rattle.standing.specs.declared.change.Change.the-variants.{Meet}
 use Rattle.standing.specs.Change.{seen}
 use Rattle.standing.specs.Together.{among-or-not}
-use Rattle.segment_known.specs.declared.steps.Step.{Step}
-use Rattle.segment_known.specs.Step.{sview, Steps}
+use Rattle.segment_steps.specs.declared.steps.Step.{Step}
+use Rattle.segment_steps.specs.Step.{sview, Steps}
 use Rattle.standing.specs.View.{coded}
 use Rattle.segment_knowledge.specs.View.{points, cview}
 use Rattle.standing.specs.Codes.{coded-set}

@@ -26,9 +26,9 @@ use Rattle.segment_knowledge.specs.View.{points, cview}
 use Rattle.segment_known.specs.declared.everyday.Target.{Target}
 use Rattle.segment_known.specs.declared.everyday.Target.the-variants.{Cell, Anywhere, Nowhere, Command, Elsewhere}
 use Rattle.segment_known.specs.Cells.{somewhere-steps}
-use Rattle.segment_known.specs.Step.{Steps, keptOf}
-use Rattle.segment_known.specs.StepLaws.{as-steps, kept-steps}
-use Rattle.segment_known.specs.StepWays.{step-known}
+use Rattle.segment_steps.specs.Step.{Steps, keptOf}
+use Rattle.segment_steps.specs.StepLaws.{as-steps, kept-steps}
+use Rattle.segment_steps.specs.StepWays.{step-known}
 use Rattle.segment_known.specs.Ways.{other-in}
 use Rattle.standing.specs.Together.{put-told}
 

@@ -1,6 +1,3 @@
-pub mod Step
-pub mod StepLaws
-pub mod StepWays
 pub mod Ways
 pub mod Stored
 pub mod Cells

@@ -12,8 +12,8 @@ use Rattle.segment.specs.Laws.{every}
 use Rattle.segment.specs.Move.{move}
 use Rattle.segment_knowledge.specs.declared.knowledge.Knowledge.{Knowledge}
 use Rattle.segment_knowledge.specs.View.{held, kview, Knows}
-use Rattle.segment_known.specs.declared.steps.Step.{Step}
-use Rattle.segment_known.specs.Step.{sview, Steps}
+use Rattle.segment_steps.specs.declared.steps.Step.{Step}
+use Rattle.segment_steps.specs.Step.{sview, Steps}
 
 -- The knowledge of the cells and what stands beside them is what the step says.
 changed-view : (old new : List ℕ) (r : Step) → Changes (r .change) old new → (f : Fact) → kview (record { cells = new; control = r .control }) f ≡ sview (held old) r f

@@ -30,7 +30,7 @@ use Rattle.segment.specs.Move.{sets, then, nothing, toMode, counted}
 use Rattle.standing.specs.View.{stands}
 use Rattle.segment_knowledge.specs.declared.control.Control.{Control as Beside}
 use Rattle.segment_knowledge.specs.View.{cview}
-use Rattle.segment_known.specs.Step.{Keeps}
+use Rattle.segment_steps.specs.Step.{Keeps}
 
 -- The choices that no number of the code's match names.
 pub other-in : (a b : Rule Fact Fact) (n : ℕ) → ¬ (n ≡ 1) → ¬ (n ≡ 2) → of4 nothing a b nothing n ≡ nothing

@@ -1,8 +1,5 @@
 // What a byte clocked in makes of a knowledge.
 use crate::commanded::first_in;
-use crate::steps::Step;
-use crate::steps::both_steps;
-use crate::steps::kept;
 use segment::Family;
 use segment_knowledge::Control;
 use segment_knowledge::FIRST;
@@ -19,6 +16,9 @@ use segment_knowledge::WRITE_LED;
 use segment_knowledge::at;
 use segment_knowledge::stepping_by;
 use segment_knowledge::with_data;
+use segment_steps::Step;
+use segment_steps::both_steps;
+use segment_steps::kept;
 use standing::Change;
 use standing::Standing;
 use terms::Address;
@@ -33,7 +33,7 @@ ghost use Rattle.segment.specs.Family.{sizes};
 ghost use Rattle.segment.specs.Value.{pointer};
 ghost use Rattle.segment.specs.Move.{sets, after, storedAt, stored, written, byteIn};
 ghost use Rattle.segment_knowledge.specs.View.{points};
-ghost use Rattle.segment_known.specs.Step.{Steps, Keeps};
+ghost use Rattle.segment_steps.specs.Step.{Steps, Keeps};
 
 pub fn byte_in(family: Family, c: Control, byte: u8) -> Step
     ensures { λ r. ⌜ Steps (sizes family) (look position (byteIn (sizes family) byte)) c r ⌝ }

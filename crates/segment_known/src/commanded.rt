@@ -1,7 +1,4 @@
 // What a first byte makes of a knowledge.
-use crate::steps::Step;
-use crate::steps::forgotten;
-use crate::steps::kept;
 use segment::Command;
 use segment::Data;
 use segment::Display;
@@ -23,6 +20,9 @@ use segment_knowledge::WRITE_DISPLAY;
 use segment_knowledge::WRITE_LED;
 use segment_knowledge::at;
 use segment_knowledge::both;
+use segment_steps::Step;
+use segment_steps::forgotten;
+use segment_steps::kept;
 use standing::Standing;
 ghost use mathlib.Core.Path.{_≡_};
 ghost use Prim.Native.Nat.{_≤_};
@@ -34,7 +34,7 @@ ghost use Rattle.segment.specs.Move.{toMode, tested, commanded};
 ghost use Rattle.segment.specs.Value.{pointer, data-mode, steps, shows};
 ghost use Rattle.segment_knowledge.specs.View.{points};
 ghost use Rattle.standing.specs.Change.{Plain};
-ghost use Rattle.segment_known.specs.Step.{Steps, Keeps, Forgets};
+ghost use Rattle.segment_steps.specs.Step.{Steps, Keeps, Forgets};
 ghost use Rattle.knowing.specs.Standing.{known};
 
 pub fn first_in(family: Family, c: Control, byte: u8) -> Step

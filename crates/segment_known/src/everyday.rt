@@ -29,7 +29,7 @@ ghost use Rattle.segment.specs.Move.{move};
 ghost use Rattle.segment.specs.declared.chip.Position.the-variants.{First, Open};
 ghost use Rattle.segment.specs.Value.{at-position};
 ghost use Rattle.segment_knowledge.specs.View.{points, Knows};
-ghost use Rattle.segment_known.specs.Step.{Keeps, Steps};
+ghost use Rattle.segment_steps.specs.Step.{Keeps, Steps};
 ghost use Rattle.segment_known.specs.Everyday.{Counting, Hits, HitsAt};
 
 pub fn falls(c: Control) -> Control

@@ -10,7 +10,7 @@ ghost use Rattle.rules.specs.Choice.{whether};
 ghost use Rattle.rules.specs.Rule.{gives};
 ghost use Rattle.segment.specs.Family.{sizes};
 ghost use Rattle.segment.specs.Move.{keysLatched, switchesLatched};
-ghost use Rattle.segment_known.specs.Step.{Keeps};
+ghost use Rattle.segment_steps.specs.Step.{Keeps};
 
 pub fn keys_latched(family: Family, c: Control, k0: u8, k1: u8, k2: u8, k3: u8) -> Control
     ensures { λ r. ⌜ Keeps (sizes family) (gives (keysLatched (sizes family) k0 k1 k2 k3)) c r ⌝ }

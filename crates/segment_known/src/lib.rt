@@ -5,7 +5,6 @@ mod everyday;
 mod latches;
 mod moves;
 mod reads;
-mod steps;
 
 pub use everyday::Target;
 pub use everyday::command_in;

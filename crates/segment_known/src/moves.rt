@@ -3,9 +3,6 @@ use crate::bytes::byte_in;
 use crate::latches::keys_latched;
 use crate::latches::switches_latched;
 use crate::reads::byte_out;
-use crate::steps::Step;
-use crate::steps::forgotten;
-use crate::steps::kept;
 use segment::Family;
 use segment_knowledge::Control;
 use segment_knowledge::FIRST;
@@ -16,18 +13,21 @@ use segment_knowledge::OFF;
 use segment_knowledge::Pointing;
 use segment_knowledge::WRITE_DISPLAY;
 use segment_knowledge::at;
-use segment_knowledge::no_control;
+use segment_steps::Step;
+use segment_steps::forgotten;
+use segment_steps::kept;
+use segment_steps::lost;
 use standing::Standing;
 use standing::apply;
 use terms::Address;
 use terms::Event;
 ghost use lib.ListN.{length};
-ghost use Rattle.rules.specs.Rule.{gives, free};
+ghost use Rattle.rules.specs.Rule.{gives};
 ghost use mathlib.Core.Path.{_≡_};
 ghost use Rattle.segment.specs.Family.{sizes};
 ghost use Rattle.segment.specs.Move.{powered, move};
 ghost use Rattle.segment_knowledge.specs.View.{Knows};
-ghost use Rattle.segment_known.specs.Step.{Steps, Forgets};
+ghost use Rattle.segment_steps.specs.Step.{Steps, Forgets};
 
 // What is known beside the memory after an event, and what happens to the memory.
 fn step(family: Family, c: Control, event: Event) -> Step
@@ -44,14 +44,6 @@ fn step(family: Family, c: Control, event: Event) -> Step
         Event::Switches(value) => kept(switches_latched(family, c, value)),
         Event::ByteOut => kept(byte_out(family, c)),
     }
-}
-
-// Whatever was known, events were lost.
-fn lost(family: Family, c: Control) -> Step
-    ensures { λ r. ⌜ Steps (sizes family) (gives (λ f. free)) c r ⌝ }
-{
-    let control = no_control();
-    forgotten(control)
 }
 
 fn at_power(family: Family, c: Control) -> Control

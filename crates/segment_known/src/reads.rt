@@ -17,7 +17,7 @@ ghost use Rattle.rules.specs.Rule.{look};
 ghost use Rattle.segment.specs.Family.{sizes};
 ghost use Rattle.segment.specs.Fact.{dataMode, readCount, position};
 ghost use Rattle.segment.specs.Move.{counted, readOut, byteOut};
-ghost use Rattle.segment_known.specs.Step.{Keeps};
+ghost use Rattle.segment_steps.specs.Step.{Keeps};
 
 pub fn byte_out(family: Family, c: Control) -> Control
     ensures { λ r. ⌜ Keeps (sizes family) (look position byteOut) c r ⌝ }

@@ -4,7 +4,7 @@ use mathlib.Core.Path.{ap}
 use Rattle.character.specs.Fact.{position}
 use Rattle.character.specs.Move.{byteIn}
 use Rattle.standing.specs.View.{stands}
-use Rattle.character_known.specs.Steps.{known-step}
+use Rattle.character_steps.specs.Steps.{known-step}
 use borrow.Author.Needs.{needs}
 use Rattle.character_known.proofs.bytes.byte_in.Statement.{statement}
 use Rattle.character_known.proofs.bytes.byte_in.Tie as tie

@@ -3,7 +3,7 @@
 use mathlib.Core.Path.{refl}
 use Rattle.character.specs.Fact.{position}
 use Rattle.character.specs.Move.{byteIn}
-use Rattle.character_known.specs.Steps.{kept-steps, kept-plain, goes}
+use Rattle.character_steps.specs.Steps.{kept-steps, kept-plain, goes}
 use Rattle.character_known.specs.Anywhere.{six-ways}
 use borrow.Author.Needs.{needs}
 use Rattle.character_known.proofs.bytes.in_anywhere.Statement.{statement}

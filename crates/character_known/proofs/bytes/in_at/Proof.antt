@@ -2,7 +2,7 @@
 -- Assumes nothing.
 use mathlib.Core.Path.{refl}
 use Rattle.character_known.specs.Position.{other-place}
-use Rattle.character_known.specs.Steps.{kept-steps, same-rule}
+use Rattle.character_steps.specs.Steps.{kept-steps, same-rule}
 use borrow.Author.Needs.{needs}
 use Rattle.character_known.proofs.bytes.in_at.Statement.{statement}
 use Rattle.character_known.proofs.bytes.in_at.Tie as tie

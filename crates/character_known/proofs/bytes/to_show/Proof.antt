@@ -6,7 +6,7 @@ use Rattle.character_knowledge.specs.View.{cview, points}
 use Rattle.character.specs.Fact.{dcramAt}
 use Rattle.character.specs.Laws.{every}
 use Rattle.character.specs.Move.{shown}
-use Rattle.character_known.specs.Steps.{known-step}
+use Rattle.character_steps.specs.Steps.{known-step}
 use Rattle.character_known.specs.Cells.{dcram-open}
 use borrow.Author.Needs.{needs}
 use Rattle.character_known.proofs.bytes.to_show.Statement.{statement}

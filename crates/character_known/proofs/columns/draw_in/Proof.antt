@@ -7,7 +7,7 @@ use Rattle.character.specs.Fact.{column}
 use Rattle.character.specs.Laws.{every}
 use Rattle.character.specs.Move.{drawn}
 use Rattle.character_knowledge.specs.View.{cview}
-use Rattle.character_known.specs.Steps.{known-step}
+use Rattle.character_steps.specs.Steps.{known-step}
 use Rattle.character_known.specs.Columns.{column-open}
 use borrow.Author.Needs.{needs}
 use Rattle.character_known.proofs.columns.draw_in.Statement.{statement}

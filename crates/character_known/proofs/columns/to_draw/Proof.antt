@@ -5,7 +5,7 @@ use Rattle.rules.specs.Rule.{look}
 use Rattle.character.specs.Fact.{cgramAt, column}
 use Rattle.character.specs.Move.{drawn}
 use Rattle.character_knowledge.specs.View.{points}
-use Rattle.character_known.specs.Steps.{known-step}
+use Rattle.character_steps.specs.Steps.{known-step}
 use borrow.Author.Needs.{needs}
 use Rattle.character_known.proofs.columns.to_draw.Statement.{statement}
 use Rattle.character_known.proofs.columns.to_draw.Tie as tie

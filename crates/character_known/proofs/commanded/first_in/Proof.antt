@@ -8,7 +8,7 @@ use Rattle.character.specs.Fact.{same?, dcramAt, cgramAt, adramAt, column, port
 use Rattle.character.specs.Laws.{every}
 use Rattle.character.specs.Move.{commanded}
 use Rattle.character_knowledge.specs.View.{blank, cview}
-use Rattle.character_known.specs.Steps.{kept-steps, forgotten-steps, kept-plain, forgotten-plain, same-rule}
+use Rattle.character_steps.specs.Steps.{kept-steps, forgotten-steps, kept-plain, forgotten-plain, same-rule}
 use borrow.Author.Needs.{needs}
 use Rattle.character_known.proofs.commanded.first_in.Statement.{statement}
 use Rattle.character_known.proofs.commanded.first_in.Tie as tie

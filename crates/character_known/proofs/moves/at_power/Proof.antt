@@ -2,7 +2,7 @@
 -- Assumes nothing.
 use mathlib.Core.Path.{refl}
 use Rattle.character.specs.Laws.{every}
-use Rattle.character_known.specs.Steps.{forgotten-steps}
+use Rattle.character_steps.specs.Steps.{forgotten-steps}
 use borrow.Author.Needs.{needs}
 use Rattle.character_known.proofs.moves.at_power.Statement.{statement}
 use Rattle.character_known.proofs.moves.at_power.Tie as tie

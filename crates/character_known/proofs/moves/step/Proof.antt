@@ -5,7 +5,7 @@ use Rattle.knowing.specs.Ways.{learnt}
 use Rattle.character.specs.Fact.{same?, position}
 use Rattle.character.specs.Move.{move}
 use Rattle.character_knowledge.specs.View.{cview}
-use Rattle.character_known.specs.Steps.{kept-steps, same-rule}
+use Rattle.character_steps.specs.Steps.{kept-steps, same-rule}
 use borrow.Author.Needs.{needs}
 use Rattle.character_known.proofs.moves.step.Statement.{statement}
 use Rattle.character_known.proofs.moves.step.Tie as tie

@@ -1,7 +1,7 @@
 -- `character_known::moves::taken` meets its contract: the step is the rule, and each row is changed as it says, within it.
 -- Assumes nothing.
 use Rattle.character.specs.Move.{move}
-use Rattle.character_known.specs.Steps.{applied}
+use Rattle.character_steps.specs.Steps.{applied}
 use borrow.Author.Needs.{needs}
 use Rattle.character_known.proofs.moves.taken.Statement.{statement}
 use Rattle.character_known.proofs.moves.taken.Tie as tie

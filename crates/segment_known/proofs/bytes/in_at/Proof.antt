@@ -1,7 +1,7 @@
 -- `segment_known::bytes::in_at` meets its contract: each arm knows the position.
 -- Assumes nothing.
 use mathlib.Core.Path.{refl}
-use Rattle.segment_known.specs.StepLaws.{kept-steps, as-steps}
+use Rattle.segment_steps.specs.StepLaws.{kept-steps, as-steps}
 use Rattle.segment_known.specs.Ways.{other-in}
 use borrow.Author.Needs.{needs}
 use Rattle.segment_known.proofs.bytes.in_at.Statement.{statement}

@@ -5,8 +5,8 @@ use Rattle.standing.specs.View.{stands}
 use Rattle.segment.specs.Fact.{range, dataMode}
 use Rattle.segment.specs.Family.{sizes}
 use Rattle.segment.specs.Move.{written}
-use Rattle.segment_known.specs.StepLaws.{kept-steps, with-kept}
-use Rattle.segment_known.specs.StepWays.{step-known, step-first, step-next, step-all}
+use Rattle.segment_steps.specs.StepLaws.{kept-steps, with-kept}
+use Rattle.segment_steps.specs.StepWays.{step-known, step-first, step-next, step-all}
 use borrow.Author.Needs.{needs}
 use Rattle.segment_known.proofs.bytes.open_in.Statement.{statement}
 use Rattle.segment_known.proofs.bytes.open_in.Tie as tie

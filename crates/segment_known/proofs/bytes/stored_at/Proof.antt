@@ -5,8 +5,8 @@ use Rattle.standing.specs.View.{stands}
 use Rattle.segment.specs.Family.{sizes}
 use Rattle.segment.specs.Fact.{stepping}
 use Rattle.segment.specs.Move.{storedAt}
-use Rattle.segment_known.specs.StepLaws.{put-put}
-use Rattle.segment_known.specs.StepWays.{step-known, step-first, step-next, step-all}
+use Rattle.segment_steps.specs.StepLaws.{put-put}
+use Rattle.segment_steps.specs.StepWays.{step-known, step-first, step-next, step-all}
 use borrow.Author.Needs.{needs}
 use Rattle.segment_known.proofs.bytes.stored_at.Statement.{statement}
 use Rattle.segment_known.proofs.bytes.stored_at.Tie as tie

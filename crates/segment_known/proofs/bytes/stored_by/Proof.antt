@@ -9,10 +9,10 @@ use Rattle.segment.specs.Fact.{address}
 use Rattle.segment.specs.Family.{sizes}
 use Rattle.segment.specs.Move.{stored}
 use Rattle.segment_knowledge.specs.View.{points}
-use Rattle.segment_known.specs.Step.{Steps}
+use Rattle.segment_steps.specs.Step.{Steps}
 use Rattle.segment_known.specs.Cells.{somewhere-steps}
-use Rattle.segment_known.specs.StepLaws.{kept-steps}
-use Rattle.segment_known.specs.StepWays.{step-known}
+use Rattle.segment_steps.specs.StepLaws.{kept-steps}
+use Rattle.segment_steps.specs.StepWays.{step-known}
 use borrow.Author.Needs.{needs}
 use Rattle.segment_known.proofs.bytes.stored_by.Statement.{statement}
 use Rattle.segment_known.proofs.bytes.stored_by.Tie as tie

@@ -5,7 +5,7 @@ use mathlib.Core.Path.{refl}
 use Rattle.segment.specs.Laws.{every, room, cells-apart}
 use Rattle.segment.specs.Fact.{same?, cell}
 use Rattle.segment_knowledge.specs.View.{cview}
-use Rattle.segment_known.specs.StepLaws.{as-steps}
+use Rattle.segment_steps.specs.StepLaws.{as-steps}
 use Rattle.segment_known.specs.Ways.{other-step}
 use Rattle.standing.specs.Together.{put-told}
 use Prim.Native.Nat.{_<_}

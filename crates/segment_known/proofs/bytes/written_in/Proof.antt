@@ -1,7 +1,7 @@
 -- `segment_known::bytes::written_in` meets its contract: each arm knows the data mode.
 -- Assumes nothing.
 use mathlib.Core.Path.{refl}
-use Rattle.segment_known.specs.StepLaws.{kept-steps, as-steps}
+use Rattle.segment_steps.specs.StepLaws.{kept-steps, as-steps}
 use Rattle.segment_known.specs.Ways.{other-written}
 use borrow.Author.Needs.{needs}
 use Rattle.segment_known.proofs.bytes.written_in.Statement.{statement}

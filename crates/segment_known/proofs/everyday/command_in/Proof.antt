@@ -8,7 +8,7 @@ use Rattle.segment.specs.Fact.{position}
 use Rattle.segment.specs.Family.{sizes}
 use Rattle.segment.specs.Move.{byteIn}
 use Rattle.segment_known.specs.Moved.{step-done}
-use Rattle.segment_known.specs.StepWays.{step-known}
+use Rattle.segment_steps.specs.StepWays.{step-known}
 use borrow.Author.Needs.{needs}
 use Rattle.segment_known.proofs.everyday.command_in.Statement.{statement}
 use Rattle.segment_known.proofs.everyday.command_in.Tie as tie

@@ -6,7 +6,7 @@ use Rattle.segment.specs.Fact.{same?, position}
 use Rattle.segment.specs.Family.{sizes}
 use Rattle.segment.specs.Move.{move}
 use Rattle.segment_knowledge.specs.View.{cview}
-use Rattle.segment_known.specs.StepLaws.{kept-steps, forgotten-steps, as-steps}
+use Rattle.segment_steps.specs.StepLaws.{kept-steps, forgotten-steps, as-steps}
 use borrow.Author.Needs.{needs}
 use Rattle.segment_known.proofs.moves.step.Statement.{statement}
 use Rattle.segment_known.proofs.moves.step.Tie as tie

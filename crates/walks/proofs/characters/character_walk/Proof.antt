@@ -15,7 +15,7 @@ use Rattle.character.specs.Fact.{same?, range}
 use Rattle.character_knowledge.specs.declared.knowledge.Knowledge.{Knowledge}
 use Rattle.character_knowledge.specs.View.{memory, kview}
 use Rattle.character_known.specs.Everyday.{Showing, Drawing, Marking, hit}
-use Rattle.character_known.specs.Steps.{applied}
+use Rattle.character_steps.specs.Steps.{applied}
 use Rattle.walks.specs.CharacterArrives.{Sized, Arrives, arrived}
 use Rattle.walks.specs.Kept.{Kept, kept-start, kept-next, kept-as, kept-done, kept-stops}
 use Rattle.walks.proofs.characters.character_walk.Statement.{statement}

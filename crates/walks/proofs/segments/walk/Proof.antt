@@ -20,7 +20,7 @@ use Rattle.segment.specs.Laws.{room}
 use Rattle.segment_known.specs.declared.everyday.Target.{Target}
 use Rattle.segment_known.specs.Everyday.{Hits, roamed, ignored}
 use Rattle.segment_known.specs.Moved.{step-done}
-use Rattle.segment_known.specs.Step.{keptOf}
+use Rattle.segment_steps.specs.Step.{keptOf}
 use Rattle.walks.specs.Arrives.{Arrives, arrived}
 use Rattle.walks.specs.Kept.{Kept, kept-start, kept-next, kept-as, kept-done, kept-stops}
 use Rattle.walks.proofs.segments.walk.Statement.{statement}

@@ -1,9 +1,9 @@
--- `segment_known::moves::lost` meets its contract: nothing is known of the memory, and nothing beside it.
+-- `segment_steps::steps::lost` meets its contract: nothing is known of the memory, and nothing beside it.
 -- Assumes nothing.
-use Rattle.segment_known.specs.StepLaws.{forgotten-steps}
+use Rattle.segment_steps.specs.StepLaws.{forgotten-steps}
 use borrow.Author.Needs.{needs}
-use Rattle.segment_known.proofs.moves.lost.Statement.{statement}
-use Rattle.segment_known.proofs.moves.lost.Tie as tie
+use Rattle.segment_steps.proofs.steps.lost.Statement.{statement}
+use Rattle.segment_steps.proofs.steps.lost.Tie as tie
 
 no-control-requires : tie.Need-no-control-requires
 no-control-requires c κs = search needs

@@ -1,10 +1,14 @@
 // What an event makes of a knowledge: the facts beside the memory, and what happens to the memory.
+use segment::Family;
 use segment_knowledge::Control;
 use segment_knowledge::both;
+use segment_knowledge::no_control;
 use standing::Change;
 use standing::both_changes;
 ghost use mathlib.Core.Path.{_≡_};
-ghost use Rattle.segment_known.specs.Step.{keptOf, forgottenOf, Both};
+ghost use Rattle.rules.specs.Rule.{gives, free};
+ghost use Rattle.segment.specs.Family.{sizes};
+ghost use Rattle.segment_steps.specs.Step.{keptOf, forgottenOf, Both, Steps};
 
 pub struct Step {
     pub control: Control,
@@ -42,4 +46,12 @@ pub fn both_steps(a: Step, b: Step) -> Step
     let b_change = b.change;
     let change = both_changes(a_change, b_change);
     Step { control, change }
+}
+
+// Whatever was known, events were lost.
+pub fn lost(family: Family, c: Control) -> Step
+    ensures { λ r. ⌜ Steps (sizes family) (gives (λ f. free)) c r ⌝ }
+{
+    let control = no_control();
+    forgotten(control)
 }

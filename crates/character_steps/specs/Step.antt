@@ -9,7 +9,7 @@ use Rattle.standing.specs.Change.{seen, Inside, joined, Plain}
 use Rattle.character.specs.Fact.{Fact, same?, range}
 use Rattle.character_knowledge.specs.declared.control.Control.{Control}
 use Rattle.character_knowledge.specs.View.{Memory, blank, cview}
-use Rattle.character_known.specs.declared.steps.Step.{Step}
+use Rattle.character_steps.specs.declared.steps.Step.{Step}
 
 -- What is known of the memory after a step.
 abbrev pub after : Step → Memory → Memory

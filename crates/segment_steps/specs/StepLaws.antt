@@ -16,8 +16,8 @@ use Rattle.segment.specs.Fact.{Fact, same?, range, cell, address, dataMode, ste
 use Rattle.segment.specs.Laws.{every}
 use Rattle.segment_knowledge.specs.declared.control.Control.{Control}
 use Rattle.segment_knowledge.specs.View.{cview}
-use Rattle.segment_known.specs.declared.steps.Step.{Step}
-use Rattle.segment_known.specs.Step.{sview, Within, Steps, Keeps, Forgets, keptOf, forgottenOf, Both}
+use Rattle.segment_steps.specs.declared.steps.Step.{Step}
+use Rattle.segment_steps.specs.Step.{sview, StaysInside, Steps, Keeps, Forgets, keptOf, forgottenOf, Both}
 
 pub kept-steps : {s : Sizes} {rule : Rule Fact Fact} {c d : Control} {r : Step} → r ≡ keptOf d → Keeps s rule c d → Steps s rule c r
 kept-steps {s} {rule} {c} {d} {r} e h = subst⁻¹ (λ (x : Step). Steps s rule c x) e (record { knows = h; inside = tt })
@@ -26,7 +26,7 @@ pub forgotten-steps : {s : Sizes} {rule : Rule Fact Fact} {c d : Control} {r : S
 forgotten-steps {s} {rule} {c} {d} {r} e h = subst⁻¹ (λ (x : Step). Steps s rule c x) e (record { knows = h; inside = tt })
 
 pub as-steps : {s : Sizes} {x y : Rule Fact Fact} {c : Control} {r : Step} → x ≡ y → Steps s y c r → Steps s x c r
-as-steps {s} = Of.as-steps cview sview Within same? (range s)
+as-steps {s} = Of.as-steps cview sview StaysInside same? (range s)
 
 -- What two steps do to the cells can be told together.
 pub record Told (a b : Step) : Type 0 where

@@ -1,10 +1,12 @@
 // What an event does, as a small value: all that is known beside the memory, and a change for each RAM.
 use character_knowledge::Control;
 use character_knowledge::both;
+use character_knowledge::no_control;
 use standing::Change;
 use standing::both_changes;
 ghost use mathlib.Core.Path.{_≡_};
-ghost use Rattle.character_known.specs.Step.{keptOf, forgottenOf, Both};
+ghost use Rattle.rules.specs.Rule.{gives, free};
+ghost use Rattle.character_steps.specs.Step.{keptOf, forgottenOf, Both, Steps};
 
 pub struct Step {
     pub control: Control,
@@ -59,4 +61,12 @@ pub fn both_steps(a: Step, b: Step) -> Step
         cgram,
         adram,
     }
+}
+
+// Whatever was known, events were lost.
+pub fn lost(c: Control) -> Step
+    ensures { λ r. ⌜ Steps (gives (λ f. free)) c r ⌝ }
+{
+    let control = no_control();
+    forgotten(control)
 }

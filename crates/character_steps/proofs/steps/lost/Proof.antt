@@ -1,9 +1,9 @@
--- `character_known::moves::lost` meets its contract: nothing is known of the memory, and nothing beside it.
+-- `character_steps::steps::lost` meets its contract: nothing is known of the memory, and nothing beside it.
 -- Assumes nothing.
-use Rattle.character_known.specs.Steps.{forgotten-steps}
+use Rattle.character_steps.specs.Steps.{forgotten-steps}
 use borrow.Author.Needs.{needs}
-use Rattle.character_known.proofs.moves.lost.Statement.{statement}
-use Rattle.character_known.proofs.moves.lost.Tie as tie
+use Rattle.character_steps.proofs.steps.lost.Statement.{statement}
+use Rattle.character_steps.proofs.steps.lost.Tie as tie
 
 no-control-requires : tie.Need-no-control-requires
 no-control-requires c κs = search needs

@@ -11,19 +11,19 @@ use Rattle.segment.specs.declared.chip.Sizes.{Sizes}
 use Rattle.segment.specs.Fact.{Fact, same?, range}
 use Rattle.segment_knowledge.specs.declared.control.Control.{Control}
 use Rattle.segment_knowledge.specs.View.{cview}
-use Rattle.segment_known.specs.declared.steps.Step.{Step}
+use Rattle.segment_steps.specs.declared.steps.Step.{Step}
 
 -- What is known after a step, by what was known of the cells before it.
 abbrev pub sview : (ℕ → Standing) → Step → Fact → Standing
 sview cells r = cview (λ i. seen (r .change) i (cells i)) (r .control)
 
 -- The change stays within the cells.
-abbrev pub Within : Step → Type 0
-Within r = Inside 36 (r .change)
+abbrev pub StaysInside : Step → Type 0
+StaysInside r = Inside 36 (r .change)
 
 -- The step r is what the rule makes of c, whatever is known of the cells, and it stays within them.
 abbrev pub Steps : Sizes → Rule Fact Fact → Control → Step → Type 0
-Steps s = Of.Steps cview sview Within same? (range s)
+Steps s = Of.Steps cview sview StaysInside same? (range s)
 
 -- The same where the cells stay, and where they are forgotten.
 abbrev pub Keeps : Sizes → Rule Fact Fact → Control → Control → Type 0

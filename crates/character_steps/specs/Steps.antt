@@ -16,8 +16,8 @@ use Rattle.character.specs.Laws.{every}
 use Rattle.character_knowledge.specs.declared.control.Control.{Control}
 use Rattle.character_knowledge.specs.declared.knowledge.Knowledge.{Knowledge}
 use Rattle.character_knowledge.specs.View.{Memory, cview, memory, Knows}
-use Rattle.character_known.specs.declared.steps.Step.{Step}
-use Rattle.character_known.specs.Step.{sview, AllInside, Steps, Keeps, Forgets, keptOf, forgottenOf, Both, AllPlain}
+use Rattle.character_steps.specs.declared.steps.Step.{Step}
+use Rattle.character_steps.specs.Step.{sview, AllInside, Steps, Keeps, Forgets, keptOf, forgottenOf, Both, AllPlain}
 
 pub kept-steps : {rule : Rule Fact Fact} {c d : Control} {r : Step} → r ≡ keptOf d → Keeps rule c d → Steps rule c r
 kept-steps {rule} {c} {d} {r} e h = subst⁻¹ (λ (x : Step). Steps rule c x) e (record { knows = h; inside = (tt, (tt, tt)) })

@@ -1,0 +1,8 @@
+// A step: what an event makes of a knowledge of PT6312 and PT6315, told in two, the facts beside the memory and what happens to the memory.
+mod steps;
+
+pub use steps::Step;
+pub use steps::both_steps;
+pub use steps::forgotten;
+pub use steps::kept;
+pub use steps::lost;
