@@ -1,8 +1,2 @@
-// The records of a recording, one after the other, taken through a knowledge.
-mod characters;
-mod segments;
-
-pub use characters::CharacterWalked;
-pub use characters::character_walk;
-pub use segments::SegmentWalked;
-pub use segments::segment_walk;
+// What it is to take the records of a recording, one after the other, through a knowledge: what such a walk leaves, and what stays the same while code
+// walks. There is no code here.

@@ -11,7 +11,7 @@ use Rattle.recording.specs.Steps.{stops-within}
 use Rattle.recording.specs.Walk.{walked, events, endOf}
 use Rattle.walks.specs.Left.{InTurn}
 use Rattle.terms.specs.declared.Part.the-variants.{Pt6302}
-use Rattle.walks.specs.Character.{Walks}
+use Rattle.character_walks.specs.Walks.{Walks}
 use Rattle.character_knowledge.specs.View.{kview}
 use Rattle.character.specs.Move.{move}
 use Rattle.character.specs.Fact.{same?, range}

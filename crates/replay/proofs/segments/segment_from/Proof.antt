@@ -10,7 +10,7 @@ use Rattle.replay.specs.Answer.{refused-as}
 use Rattle.recording.specs.Steps.{stops-within}
 use Rattle.recording.specs.Walk.{walked, events, endOf}
 use Rattle.walks.specs.Left.{InTurn}
-use Rattle.walks.specs.Segment.{Walks}
+use Rattle.segment_walks.specs.Walks.{Walks}
 use Rattle.segment_knowledge.specs.View.{kview}
 use Rattle.segment.specs.Move.{move}
 use Rattle.segment.specs.Fact.{same?, range}

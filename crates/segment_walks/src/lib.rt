@@ -17,7 +17,7 @@ use standing::put;
 use terms::Event;
 use terms::Part;
 use terms::Place;
-ghost use Rattle.walks.specs.Segment.{Walks};
+ghost use Rattle.segment_walks.specs.Walks.{Walks};
 
 // How the walk ended, and the knowledge: after all events where it is done, else as it was.
 pub struct SegmentWalked {

@@ -8,8 +8,8 @@ use Rattle.character.specs.Fact.{same?, range}
 use Rattle.character.specs.Move.{move}
 use Rattle.character_knowledge.specs.declared.knowledge.Knowledge.{Knowledge}
 use Rattle.character_knowledge.specs.View.{kview}
-use Rattle.walks.specs.declared.characters.CharacterWalked.{CharacterWalked}
+use Rattle.character_walks.specs.declared.CharacterWalked.{CharacterWalked}
 use Rattle.walks.specs.Left.{Left, InTurn}
 
 pub record Walks (part : Part) (k : Knowledge) (l : List ℕ) (r : CharacterWalked) : Type 0 where
   pub ended : r .ending ≡ endOf (walked part l)

@@ -1,4 +1,4 @@
--- `walks::segments::walk` meets its contract: what is left of the walk makes of the knowledge so far, which stands in the cells and beside them, what the whole walk makes of the first one.
+-- `segment_walks::walk` meets its contract: what is left of the walk makes of the knowledge so far, which stands in the cells and beside them, what the whole walk makes of the first one.
 -- Assumes nothing.
 use borrow.Author.Needs.{needs}
 use Prim.Native.Nat.{_+_, _≤_, _-_}
@@ -21,10 +21,10 @@ use Rattle.segment_known.specs.declared.everyday.Target.{Target}
 use Rattle.segment_known.specs.Everyday.{Hits, roamed, ignored}
 use Rattle.segment_known.specs.Moved.{step-done}
 use Rattle.segment_steps.specs.Step.{keptOf}
-use Rattle.walks.specs.Arrives.{Arrives, arrived}
+use Rattle.segment_walks.specs.Arrives.{Arrives, arrived}
 use Rattle.walks.specs.Kept.{Kept, kept-start, kept-next, kept-as, kept-done, kept-stops}
-use Rattle.walks.proofs.segments.walk.Statement.{statement}
-use Rattle.walks.proofs.segments.walk.Tie as tie
+use Rattle.segment_walks.proofs.walk.Statement.{statement}
+use Rattle.segment_walks.proofs.walk.Tie as tie
 
 abbrev Inv-loop : tie.InvT-loop
 Inv-loop part family first was bytes cells₀ control₀ i₀ cells control i =

@@ -1,4 +1,4 @@
--- `walks::characters::character_walk` meets its contract: what is left of the walk makes of the knowledge so far, which stands in the rows and beside
+-- `character_walks::character_walk` meets its contract: what is left of the walk makes of the knowledge so far, which stands in the rows and beside
 -- them, what the whole walk makes of the first one; each arm of the loop takes its event.
 -- Assumes nothing.
 use borrow.Author.Needs.{needs}
@@ -16,10 +16,10 @@ use Rattle.character_knowledge.specs.declared.knowledge.Knowledge.{Knowledge}
 use Rattle.character_knowledge.specs.View.{memory, kview}
 use Rattle.character_known.specs.Everyday.{Showing, Drawing, Marking, hit}
 use Rattle.character_steps.specs.Steps.{applied}
-use Rattle.walks.specs.CharacterArrives.{Sized, Arrives, arrived}
+use Rattle.character_walks.specs.Arrives.{Sized, Arrives, arrived}
 use Rattle.walks.specs.Kept.{Kept, kept-start, kept-next, kept-as, kept-done, kept-stops}
-use Rattle.walks.proofs.characters.character_walk.Statement.{statement}
-use Rattle.walks.proofs.characters.character_walk.Tie as tie
+use Rattle.character_walks.proofs.character_walk.Statement.{statement}
+use Rattle.character_walks.proofs.character_walk.Tie as tie
 
 abbrev Inv-loop : tie.InvT-loop
 Inv-loop part k bytes dcram₀ cgram₀ adram₀ control₀ i₀ dcram cgram adram control i =

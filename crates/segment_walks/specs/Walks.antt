@@ -10,8 +10,8 @@ use Rattle.segment.specs.Fact.{same?, range}
 use Rattle.segment.specs.Move.{move}
 use Rattle.segment_knowledge.specs.declared.knowledge.Knowledge.{Knowledge}
 use Rattle.segment_knowledge.specs.View.{kview}
-use Rattle.walks.specs.declared.segments.SegmentWalked.{SegmentWalked}
+use Rattle.segment_walks.specs.declared.SegmentWalked.{SegmentWalked}
 use Rattle.walks.specs.Left.{Left, InTurn}
 
 -- The records from the front, each by 5, 6, 7, 8; the events in turn, or the knowledge as it was.
 pub record Walks (part : Part) (p : Family) (k : Knowledge) (l : List ℕ) (r : SegmentWalked) : Type 0 where
