@@ -7,10 +7,10 @@ use mathlib.Core.List.{List, [], _∷_, _++_}
 use lib.Dec.{ltb}
 use lib.ListN.{length, take, drop, length-append, length-take, length-drop}
 use Rattle.rules.specs.Choice.{whether-all}
-use Rattle.page.specs.declared.lines.Names.the-variants.{Addresses, Characters}
-use Rattle.page.specs.Text.{newline, decimal, shown, values, line, lines}
-use Rattle.page.specs.Page.{named, digits, characters, rams, doneAt, refusedAt}
-use Rattle.page.specs.Decimal.{decimal-length}
+use Rattle.text.specs.declared.rows.Names.the-variants.{Addresses, Characters}
+use Rattle.text.specs.Text.{newline, decimal, shown, values, line, lines, named}
+use Rattle.page.specs.Page.{digits, characters, rams, doneAt, refusedAt}
+use Rattle.text.specs.Decimal.{decimal-length}
 
 shown-length : (c : ℕ) → length (shown c) ≡ 2
 shown-length c = whether-all (λ (l : List ℕ). length l ≡ 2) (ltb c 256) _ _ (λ _. refl) (λ _. refl)

@@ -1,5 +1,5 @@
 -- What the program prints of a replay (paper 01, the last paragraph of "Examples").
-use Prim.Native.Nat.{ℕ, zero, suc, _*_, _<_, _≤_}
+use Prim.Native.Nat.{ℕ, zero, suc, _<_, _≤_}
 use Prim.Native.Char.{code}
 use mathlib.Core.Path.{_≡_}
 use mathlib.Core.List.{List, [], _∷_, _++_}
@@ -10,14 +10,8 @@ use Rattle.terms.specs.declared.PartRead.the-variants.{Is, Refused}
 use Rattle.panel.specs.declared.knowledge.Panel.{Panel}
 use Rattle.replay.specs.declared.answer.Answer.{Answer}
 use Rattle.replay.specs.Answer.{number, place}
-use Rattle.page.specs.declared.lines.Names.{Names}
-use Rattle.page.specs.declared.lines.Names.the-variants.{Addresses, Characters}
-use Rattle.page.specs.Text.{newline, digit, hex, decimal, line, lines}
-
--- The name of line number i of `width` values: the address of its first cell, or the number of its character.
-abbrev pub named : Names → ℕ → ℕ → List ℕ
-named Addresses width i = hex (i * width)
-named Characters width i = code "G" ∷ digit i ∷ []
+use Rattle.text.specs.declared.rows.Names.the-variants.{Addresses, Characters}
+use Rattle.text.specs.Text.{newline, decimal, line, lines, named}
 
 -- "By digit": two cells a line on PT6312, "PT6315 has three".
 abbrev pub digits : ℕ → ℕ → List ℕ → List ℕ

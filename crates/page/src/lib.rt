@@ -1,6 +1,4 @@
 // What the program prints of a replay: the answer, and the memory that is known.
-mod lines;
-mod numbers;
 mod pages;
 
 pub use pages::ROOM;

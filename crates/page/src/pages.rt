@@ -1,14 +1,14 @@
 // The whole page of a replay.
-use crate::lines::Names;
-use crate::lines::line;
-use crate::lines::lines;
-use crate::numbers::decimal;
 use panel::Panel;
 use replay::Answer;
 use terms::Part;
 use terms::PartRead;
 use terms::Place;
 use terms::part_of;
+use text::Names;
+use text::decimal;
+use text::line;
+use text::lines;
 use writing::put;
 use writing::words;
 ghost use mathlib.Core.Path.{_≡_};

@@ -7,8 +7,8 @@ ghost use mathlib.Core.Path.{_≡_};
 ghost use Prim.Native.Nat.{_+_, _*_, _<_, _≤_};
 ghost use lib.ListN.{length, take, drop};
 ghost use Rattle.writing.specs.Writes.{Writes};
-ghost use Rattle.page.specs.Text.{values as Text·values, line as Text·line, lines as Text·lines};
-ghost use Rattle.page.specs.Page.{named};
+ghost use Rattle.text.specs.Text.{values as Text·values, line as Text·line, lines as Text·lines};
+ghost use Rattle.text.specs.Text.{named};
 
 // Values, a space in front of each.
 fn values(out: &mut [u8], at: usize, codes: &[u16]) -> usize

@@ -1,9 +1,9 @@
--- `page::numbers::hex` meets its contract: one digit behind the other.
+-- `text::numbers::hex` meets its contract: one digit behind the other.
 -- Assumes nothing.
 use Rattle.writing.specs.Laws.{writes-then}
 use borrow.Author.Needs.{needs}
-use Rattle.page.proofs.numbers.hex.Statement.{statement}
-use Rattle.page.proofs.numbers.hex.Tie as tie
+use Rattle.text.proofs.numbers.hex.Statement.{statement}
+use Rattle.text.proofs.numbers.hex.Tie as tie
 
 digit-requires : tie.Need-digit-requires
 digit-requires c κs = search needs

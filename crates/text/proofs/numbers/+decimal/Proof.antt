@@ -1,19 +1,19 @@
--- `page::numbers::decimal` meets its contract: a number of one digit is its last; any other is a tenth of it, which is smaller, and its last. The measure is the number.
+-- `text::numbers::decimal` meets its contract: a number of one digit is its last; any other is a tenth of it, which is smaller, and its last. The measure is the number.
 -- Assumes nothing.
 use Prim.Native.Nat.{ℕ, _<_}
 use native.Mathlib.Omega.{arith}
 use Rattle.writing.specs.Laws.{writes-then}
-use Rattle.page.specs.Decimal.{decimal-one, decimal-more}
+use Rattle.text.specs.Decimal.{decimal-one, decimal-more}
 use borrow.Author.Needs.{needs}
 use borrow.Fn.Kinds.{In}
 use borrow.Fn.PlainCycle.{Measures, is, falls, and}
-use Rattle.page.proofs.numbers.decimal.Reads as decimal
-use Rattle.page.proofs.numbers.decimal.Kinds as decimal-kinds
-use Rattle.page.proofs.numbers.+decimal.Lts-decimal as decimal-lts
-use Rattle.page.proofs.numbers.digit.Reads as digit-reads
+use Rattle.text.proofs.numbers.decimal.Reads as decimal
+use Rattle.text.proofs.numbers.decimal.Kinds as decimal-kinds
+use Rattle.text.proofs.numbers.+decimal.Lts-decimal as decimal-lts
+use Rattle.text.proofs.numbers.digit.Reads as digit-reads
 use Rattle.writing.proofs.put.Reads as put-reads
-use Rattle.page.proofs.numbers.+decimal.{statement}
-use Rattle.page.proofs.numbers.+decimal.Tie.{close}
+use Rattle.text.proofs.numbers.+decimal.{statement}
+use Rattle.text.proofs.numbers.+decimal.Tie.{close}
 
 abbrev μ-decimal : Measures 1 decimal-kinds.ps ℕ
 μ-decimal κs a = a .1 .1 .0

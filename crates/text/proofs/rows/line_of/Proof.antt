@@ -1,11 +1,11 @@
--- `page::lines::line_of` meets its contract: the name is that of line i, and the part of the codes that is lent has as many as the line is wide.
+-- `text::rows::line_of` meets its contract: the name is that of line i, and the part of the codes that is lent has as many as the line is wide.
 -- Assumes nothing.
 use Prim.Native.Nat.{_+_, _*_, _-_}
 use native.Mathlib.Omega.{arith}
 use mathlib.Core.Path.{_≡_}
 use borrow.Author.Needs.{needs}
-use Rattle.page.proofs.lines.line_of.Statement.{statement}
-use Rattle.page.proofs.lines.line_of.Tie as tie
+use Rattle.text.proofs.rows.line_of.Statement.{statement}
+use Rattle.text.proofs.rows.line_of.Tie as tie
 
 name-of-requires : tie.Need-name-of-requires
 name-of-requires c κs = search needs

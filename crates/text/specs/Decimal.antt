@@ -10,7 +10,7 @@ use lib.Dec.{ltb}
 use lib.ListN.{length, length-append}
 use borrow.Author.Tests.{lt-ltb, le-ltb}
 use Rattle.rules.specs.Choice.{whether, whether-all}
-use Rattle.page.specs.Text.{digit, decimalIn, decimal}
+use Rattle.text.specs.Text.{digit, decimalIn, decimal}
 
 -- Two choices that differ only in what is left where the test fails.
 same-else : {A : Type 0} (t : Bool) (a x y : A) → x ≡ y → whether t a x ≡ whether t a y

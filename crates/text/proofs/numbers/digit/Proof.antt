@@ -1,11 +1,11 @@
--- `page::numbers::digit` meets its contract: the test is that of the definition, and the letters stand behind 55.
+-- `text::numbers::digit` meets its contract: the test is that of the definition, and the letters stand behind 55.
 -- Assumes nothing.
 use native.Mathlib.Omega.{arith}
 use borrow.Author.Tests.{lt-ltb, le-ltb}
 use mathlib.Core.Path.{refl}
 use borrow.Author.Needs.{needs}
-use Rattle.page.proofs.numbers.digit.Statement.{statement}
-use Rattle.page.proofs.numbers.digit.Tie as tie
+use Rattle.text.proofs.numbers.digit.Statement.{statement}
+use Rattle.text.proofs.numbers.digit.Tie as tie
 
 add-result : tie.Need-add-result
 add-result c = search needs

@@ -1,9 +1,9 @@
--- `page::lines::line` meets its contract: the name, the colon, the values and the end stand one behind the other.
+-- `text::rows::line` meets its contract: the name, the colon, the values and the end stand one behind the other.
 -- Assumes nothing.
 use Rattle.writing.specs.Laws.{writes-then}
 use borrow.Author.Needs.{needs}
-use Rattle.page.proofs.lines.line.Statement.{statement}
-use Rattle.page.proofs.lines.line.Tie as tie
+use Rattle.text.proofs.rows.line.Statement.{statement}
+use Rattle.text.proofs.rows.line.Tie as tie
 
 words-requires : tie.Need-words-requires
 words-requires c κs = search needs

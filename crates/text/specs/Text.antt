@@ -1,10 +1,12 @@
 -- How the program writes numbers and lines (paper 01, the last paragraph of "Examples"). Text is a list of ASCII codes.
-use Prim.Native.Nat.{ℕ, zero, suc, _+_, _-_, _/_, _%_}
+use Prim.Native.Nat.{ℕ, _*_, zero, suc, _+_, _-_, _/_, _%_}
 use Prim.Native.Char.{code}
 use mathlib.Core.List.{List, [], _∷_, _++_}
 use lib.Dec.{ltb}
 use lib.ListN.{take, drop}
 use Rattle.rules.specs.Choice.{whether}
+use Rattle.text.specs.declared.rows.Names.{Names}
+use Rattle.text.specs.declared.rows.Names.the-variants.{Addresses, Characters}
 
 -- "Every line ends in 0AH."
 abbrev pub newline : ℕ
@@ -44,3 +46,8 @@ line name cs = name ++ ((code ":" ∷ []) ++ (values cs ++ (newline ∷ [])))
 abbrev pub lines : (ℕ → List ℕ) → ℕ → ℕ → ℕ → List ℕ → List ℕ
 lines name width zero i cs = []
 lines name width (suc n) i cs = line (name i) (take width cs) ++ lines name width n (suc i) (drop width cs)
+
+-- The name of line number i of `width` values: the address of its first cell, or the number of its character.
+abbrev pub named : Names → ℕ → ℕ → List ℕ
+named Addresses width i = hex (i * width)
+named Characters width i = code "G" ∷ digit i ∷ []

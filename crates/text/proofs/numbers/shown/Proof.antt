@@ -1,9 +1,9 @@
--- `page::numbers::shown` meets its contract: the test is that of the definition.
+-- `text::numbers::shown` meets its contract: the test is that of the definition.
 -- Assumes nothing.
 use borrow.Author.Tests.{lt-ltb, le-ltb}
 use borrow.Author.Needs.{needs}
-use Rattle.page.proofs.numbers.shown.Statement.{statement}
-use Rattle.page.proofs.numbers.shown.Tie as tie
+use Rattle.text.proofs.numbers.shown.Statement.{statement}
+use Rattle.text.proofs.numbers.shown.Tie as tie
 
 cast-hex : tie.Need-cast-hex
 cast-hex c = search needs

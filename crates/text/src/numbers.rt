@@ -4,7 +4,7 @@ use writing::words;
 ghost use mathlib.Core.Path.{_≡_};
 ghost use Prim.Native.Nat.{_<_};
 ghost use Rattle.writing.specs.Writes.{Writes};
-ghost use Rattle.page.specs.Text.{digit as Text·digit, hex as Text·hex, shown as Text·shown, decimal as Text·decimal};
+ghost use Rattle.text.specs.Text.{digit as Text·digit, hex as Text·hex, shown as Text·shown, decimal as Text·decimal};
 
 // A hex digit, in upper case.
 pub fn digit(n: u8) -> u8
