@@ -2,8 +2,13 @@
 use crate::sum::Sum;
 use character_knowledge::Knowledge;
 use character_knowledge::Pointing;
+ghost use mathlib.Core.Path.{_≡_};
+ghost use Rattle.bench.specs.Sum.{taken, allTaken};
+ghost use Rattle.bench.specs.Characters.{addressCode, characterSum};
 
-pub fn all(sum: Sum, k: Knowledge) -> Sum {
+pub fn all(sum: Sum, k: Knowledge) -> Sum
+    ensures { λ r. ⌜ r .0 ≡ characterSum (sum .0) k ⌝ }
+{
     let dcram = k.dcram;
     let cgram = k.cgram;
     let adram = k.adram;
@@ -28,17 +33,29 @@ pub fn all(sum: Sum, k: Knowledge) -> Sum {
         .fact(position)
 }
 
-fn sixteen(sum: Sum, row: [u16; 16]) -> Sum {
+fn sixteen(sum: Sum, row: [u16; 16]) -> Sum
+    ensures { λ r. ⌜ r .0 ≡ allTaken (sum .0) row ⌝ }
+{
     sum.codes(&row)
 }
 
-fn forty(sum: Sum, row: [u16; 40]) -> Sum {
+fn forty(sum: Sum, row: [u16; 40]) -> Sum
+    ensures { λ r. ⌜ r .0 ≡ allTaken (sum .0) row ⌝ }
+{
     sum.codes(&row)
 }
 
-fn address(sum: Sum, fact: Pointing) -> Sum {
+fn address(sum: Sum, fact: Pointing) -> Sum
+    ensures { λ r. ⌜ r .0 ≡ taken (sum .0) (addressCode fact) ⌝ }
+{
+    sum.take(code(fact))
+}
+
+fn code(fact: Pointing) -> u16
+    ensures { λ r. ⌜ r ≡ addressCode fact ⌝ }
+{
     match fact {
-        Pointing::At(cell) => sum.take(cell.0 as u16),
-        Pointing::Unknown => sum.take(256),
+        Pointing::At(cell) => cell.0 as u16,
+        Pointing::Unknown => 256,
     }
 }

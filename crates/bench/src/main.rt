@@ -19,6 +19,8 @@ use terms::Place;
 ghost use mathlib.Core.Path.{_≡_};
 ghost use Prim.Native.Nat.{_+_, _*_};
 ghost use lib.ListN.{getD};
+ghost use Rattle.replay.specs.Answer.{number, place};
+ghost use Rattle.bench.specs.Rounds.{answerSum, panelSum, Round, Rounds, Measures};
 
 // As the mirror does, it takes a byte more than the longest recording that is allowed.
 fn main() {
@@ -37,7 +39,9 @@ fn print(sum: Sum) {
     os::fail(b"bench: the checksum could not be written whole");
 }
 
-fn measured(input: &[u8]) -> Sum {
+fn measured(input: &[u8]) -> Sum
+    ensures { λ r. ⌜ Measures (now (input .entry)) (r .0) ⌝ }
+{
     let rounds = count(byte(input, 0), byte(input, 1));
     let part = byte(input, 2);
     if input.len() < 3 {
@@ -59,7 +63,9 @@ fn count(low: u8, high: u8) -> usize
     low as usize + high as usize * 256
 }
 
-fn summed(rounds: usize, part: u8, recording: &[u8]) -> Sum {
+fn summed(rounds: usize, part: u8, recording: &[u8]) -> Sum
+    ensures { λ r. ⌜ Rounds part (now (recording .entry)) rounds 0 (r .0) ⌝ }
+{
     let mut sum = Sum(0);
     let mut i = 0;
     while i < rounds {
@@ -69,7 +75,9 @@ fn summed(rounds: usize, part: u8, recording: &[u8]) -> Sum {
     sum
 }
 
-fn round(sum: Sum, part: u8, recording: &[u8]) -> Sum {
+fn round(sum: Sum, part: u8, recording: &[u8]) -> Sum
+    ensures { λ r. ⌜ Round part (now (recording .entry)) (sum .0) (r .0) ⌝ }
+{
     let replayed = replay::replay(part, panel::nothing_known(), recording, Place(0));
     let answer = replayed.answer;
     let answered = answer_in(sum, answer);
@@ -81,22 +89,35 @@ fn round(sum: Sum, part: u8, recording: &[u8]) -> Sum {
 }
 
 // Paper 01's number and the place.
-fn answer_in(sum: Sum, answer: Answer) -> Sum {
+fn answer_in(sum: Sum, answer: Answer) -> Sum
+    ensures { λ r. ⌜ r .0 ≡ answerSum (sum .0) answer ⌝ }
+{
+    let told = told_of(answer);
+    sum.take(told.0).place(told.1)
+}
+
+struct Told(u16, Place);
+
+fn told_of(answer: Answer) -> Told
+    ensures { λ r. ⌜ (r .0 ≡ number answer) × (r .1 .0 ≡ place answer) ⌝ }
+{
     match answer {
-        Answer::Done(place) => sum.take(0).place(place),
-        Answer::NoPart(place) => sum.take(1).place(place),
-        Answer::OutOfRange(place) => sum.take(2).place(place),
-        Answer::BeyondEnd(place) => sum.take(3).place(place),
-        Answer::TooLong(place) => sum.take(4).place(place),
-        Answer::Unlisted(place) => sum.take(5).place(place),
-        Answer::Foreign(place) => sum.take(6).place(place),
-        Answer::CutShort(place) => sum.take(7).place(place),
-        Answer::Forbidden(place) => sum.take(8).place(place),
+        Answer::Done(at) => Told(0, at),
+        Answer::NoPart(at) => Told(1, at),
+        Answer::OutOfRange(at) => Told(2, at),
+        Answer::BeyondEnd(at) => Told(3, at),
+        Answer::TooLong(at) => Told(4, at),
+        Answer::Unlisted(at) => Told(5, at),
+        Answer::Foreign(at) => Told(6, at),
+        Answer::CutShort(at) => Told(7, at),
+        Answer::Forbidden(at) => Told(8, at),
     }
 }
 
 // The facts of the part, in paper 01's order.
-fn panel_in(sum: Sum, part: Part, panel: Panel) -> Sum {
+fn panel_in(sum: Sum, part: Part, panel: Panel) -> Sum
+    ensures { λ r. ⌜ r .0 ≡ panelSum (sum .0) part panel ⌝ }
+{
     match part {
         Part::Pt6302 => characters::all(sum, panel.character),
         Part::Pt6312 => segments::all(sum, Family::Pt6312, panel.segment),

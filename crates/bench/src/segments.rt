@@ -4,8 +4,13 @@ use segment::Family;
 use segment_knowledge::Knowledge;
 use segment_knowledge::Pointing;
 use standing::Standing;
+ghost use mathlib.Core.Path.{_≡_};
+ghost use Rattle.bench.specs.Sum.{taken};
+ghost use Rattle.bench.specs.Segments.{addressCode, cellSum, keySum, switchSum, segmentSum};
 
-pub fn all(sum: Sum, family: Family, k: Knowledge) -> Sum {
+pub fn all(sum: Sum, family: Family, k: Knowledge) -> Sum
+    ensures { λ r. ⌜ r .0 ≡ segmentSum (sum .0) family k ⌝ }
+{
     let memory = k.cells;
     let stored = cells(sum, family, memory);
     let c = k.control;
@@ -33,30 +38,44 @@ pub fn all(sum: Sum, family: Family, k: Knowledge) -> Sum {
     switched.fact(count).fact(position)
 }
 
-fn cells(sum: Sum, family: Family, cells: [u16; 36]) -> Sum {
+fn cells(sum: Sum, family: Family, cells: [u16; 36]) -> Sum
+    ensures { λ r. ⌜ r .0 ≡ cellSum (sum .0) family cells ⌝ }
+{
     match family {
         Family::Pt6312 => sum.codes(&cells[..22]),
         Family::Pt6315 => sum.codes(&cells),
     }
 }
 
+fn address(sum: Sum, fact: Pointing) -> Sum
+    ensures { λ r. ⌜ r .0 ≡ taken (sum .0) (addressCode fact) ⌝ }
+{
+    sum.take(code(fact))
+}
+
 // An invalid address counts as 255.
-fn address(sum: Sum, fact: Pointing) -> Sum {
+fn code(fact: Pointing) -> u16
+    ensures { λ r. ⌜ r ≡ addressCode fact ⌝ }
+{
     match fact {
-        Pointing::At(cell) => sum.take(cell.0 as u16),
-        Pointing::Invalid => sum.take(255),
-        Pointing::Unknown => sum.take(256),
+        Pointing::At(cell) => cell.0 as u16,
+        Pointing::Invalid => 255,
+        Pointing::Unknown => 256,
     }
 }
 
-fn keys(sum: Sum, family: Family, keys: [u16; 4]) -> Sum {
+fn keys(sum: Sum, family: Family, keys: [u16; 4]) -> Sum
+    ensures { λ r. ⌜ r .0 ≡ keySum (sum .0) family keys ⌝ }
+{
     match family {
         Family::Pt6312 => sum.codes(&keys[..3]),
         Family::Pt6315 => sum.codes(&keys),
     }
 }
 
-fn switches_in(sum: Sum, family: Family, fact: Standing) -> Sum {
+fn switches_in(sum: Sum, family: Family, fact: Standing) -> Sum
+    ensures { λ r. ⌜ r .0 ≡ switchSum (sum .0) family fact ⌝ }
+{
     match family {
         Family::Pt6312 => sum.fact(fact),
         Family::Pt6315 => sum,

@@ -1,18 +1,22 @@
--- `bench::summed` is safe and ends: the rounds left fall.
+-- `summed` meets its contract: after i turns there were i rounds, one after the other, and the rounds left fall.
 -- Assumes nothing.
 use Prim.Native.Nat.{_≤_, _-_}
+use native.Mathlib.Numerals.{add-one}
+use native.Mathlib.Omega.{arith}
+use mathlib.Core.Path.{_≡_}
+use Rattle.bench.specs.Rounds.{Rounds, none, more}
 use borrow.Author.Needs.{needs}
 use Rattle.bench.proofs.summed.Statement.{statement}
 use Rattle.bench.proofs.summed.Tie as tie
 
 abbrev Inv-loop : tie.InvT-loop
-Inv-loop rounds part recording sum₀ i₀ sum i = (i ≤ rounds)
+Inv-loop rounds part recording sum₀ i₀ sum i = (i ≤ rounds) × Rounds part recording i 0 (sum .0)
 
 abbrev μ-loop : tie.MeasureT-loop
 μ-loop rounds part recording sum₀ i₀ sum i = rounds - i
 
 loop-holds : tie.Need-loop-holds Inv-loop μ-loop
-loop-holds c = search needs
+loop-holds c = (omega arith, none)
 
 round-requires : tie.Need-round-requires Inv-loop μ-loop
 round-requires c κs = search needs
@@ -24,10 +28,15 @@ loop-less : tie.Need-loop-less Inv-loop μ-loop
 loop-less c = search needs
 
 loop-again : tie.Need-loop-again Inv-loop μ-loop
-loop-again c = search needs
+loop-again c =
+    let loop = c .before .before in
+    (omega arith, rw add-one (more (loop .loop .inv .1) (c .round .ensures)))
 
 returns : tie.Need-returns Inv-loop μ-loop
-returns c = search needs
+returns c =
+    let loop = c .before in
+    let all : loop .loop .i ≡ loop .before .before .args .rounds = omega arith in
+    rw (← all) (loop .loop .inv .1)
 
 pub summed-spec : {M : Type 1} → statement M
 summed-spec =

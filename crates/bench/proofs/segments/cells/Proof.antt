@@ -1,4 +1,4 @@
--- `bench::segments::cells` is safe: the cells that PT6312 has are as many as the part that is lent.
+-- `cells` meets its contract: the cells that PT6312 has are as many as the part that is lent.
 -- Assumes nothing.
 use native.Mathlib.Omega.{arith}
 use lib.ListN.{length-take}
@@ -28,10 +28,10 @@ codes-requires-2 : tie.Need-codes-requires-2
 codes-requires-2 c κs = search needs
 
 returns : tie.Need-returns
-returns c = search needs
+returns c = rw (c .before .before .enum-told .given .1) (c .codes .ensures)
 
 returns-2 : tie.Need-returns-2
-returns-2 c = search needs
+returns-2 c = rw (c .before .before .enum-told2 .given .1) (c .codes2 .ensures)
 
 pub cells-spec : {M : Type 1} → statement M
 cells-spec =

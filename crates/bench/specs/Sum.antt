@@ -1,0 +1,18 @@
+-- The checksum: for each number it is 31 times what it was plus the number, modulo the largest prime below 2^32.
+use Prim.Native.Nat.{ℕ, _+_, _*_, _%_}
+use mathlib.Core.List.{List, [], _∷_}
+use Rattle.standing.specs.declared.standing.Standing.{Standing}
+use Rattle.standing.specs.declared.standing.Standing.the-variants.{Known, Unknown}
+
+abbrev pub taken : ℕ → ℕ → ℕ
+taken sum n = (sum * 31 + n) % 4294967291
+
+-- Numbers one after the other.
+abbrev pub allTaken : ℕ → List ℕ → ℕ
+allTaken sum [] = sum
+allTaken sum (n ∷ rest) = allTaken (taken sum n) rest
+
+-- What is known of one fact: its value, or 256.
+abbrev pub factCode : Standing → ℕ
+factCode (Known value) = value
+factCode Unknown = 256
