@@ -11,10 +11,10 @@ use Rattle.terms.specs.declared.PartRead.the-variants.{Is, Refused}
 use Rattle.segment.specs.declared.chip.Family.the-variants as OfFamily
 use Rattle.panel.specs.declared.knowledge.Panel.{Panel}
 use Rattle.panel.specs.View.{KnowsNothing}
-use Rattle.replay.specs.declared.answer.Answer.{Answer}
-use Rattle.replay.specs.declared.answer.Replayed.{Replayed}
-use Rattle.replay.specs.Answer.{number, place}
-use Rattle.replay.specs.Replay.{Replays}
+use Rattle.replay_answer.specs.declared.answer.Answer.{Answer}
+use Rattle.replay_answer.specs.declared.answer.Replayed.{Replayed}
+use Rattle.replay_answer.specs.Answer.{number, place}
+use Rattle.replay_answer.specs.Replay.{Replays}
 use Rattle.bench.specs.Sum.{taken}
 use Rattle.bench.specs.Characters.{characterSum}
 use Rattle.bench.specs.Segments.{segmentSum}

@@ -10,7 +10,7 @@ use input::Input;
 use input::read_input;
 use libc::STDOUT_FILENO;
 use panel::Panel;
-use replay::Answer;
+use replay_answer::Answer;
 use segment::Family;
 use sum::Sum;
 use terms::Part;
@@ -19,7 +19,7 @@ use terms::Place;
 ghost use mathlib.Core.Path.{_≡_};
 ghost use Prim.Native.Nat.{_+_, _*_};
 ghost use lib.ListN.{getD};
-ghost use Rattle.replay.specs.Answer.{number, place};
+ghost use Rattle.replay_answer.specs.Answer.{number, place};
 ghost use Rattle.bench.specs.Rounds.{answerSum, panelSum, Round, Rounds, Measures};
 
 // As the mirror does, it takes a byte more than the longest recording that is allowed.

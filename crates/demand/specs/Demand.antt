@@ -18,9 +18,9 @@ use Rattle.parts.specs.Facts.{Fact, same?, range, move}
 use Rattle.parts.specs.Laws.{two, ranged}
 use Rattle.panel.specs.declared.knowledge.Panel.{Panel}
 use Rattle.panel.specs.View.{knownOf}
-use Rattle.replay.specs.declared.answer.Replayed.{Replayed}
-use Rattle.replay.specs.Answer.{number, place}
-use Rattle.replay.specs.Replay.{Replays}
+use Rattle.replay_answer.specs.declared.answer.Replayed.{Replayed}
+use Rattle.replay_answer.specs.Answer.{number, place}
+use Rattle.replay_answer.specs.Replay.{Replays}
 use Rattle.replay.specs.ByPart.{PartDone, Acceptable, replays-by, accepted, accepts}
 use Rattle.whole.specs.Turns.{Chain, KnowsAtLeast}
 use Rattle.whole.specs.Sentence.{position, StartKnows, hasGap, DefinedOn, NoUndefined, startsFirst, IsMemory, AllEnd}

@@ -5,8 +5,8 @@ use mathlib.Core.List.{List, [], _∷_}
 use Rattle.terms.specs.Part.{partOf}
 use Rattle.panel.specs.declared.knowledge.Panel.{Panel}
 use Rattle.panel.specs.View.{KnowsNothing}
-use Rattle.replay.specs.declared.answer.Replayed.{Replayed}
-use Rattle.replay.specs.Replay.{Replays}
+use Rattle.replay_answer.specs.declared.answer.Replayed.{Replayed}
+use Rattle.replay_answer.specs.Replay.{Replays}
 use Rattle.page.specs.Page.{page, Prints}
 
 -- The part byte of an input and the recording behind it. "Empty input prints refused 1 at 0": it counts as the part

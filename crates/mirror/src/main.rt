@@ -3,7 +3,7 @@
 use input::Input;
 use input::read_input;
 use libc::STDOUT_FILENO;
-use replay::Replayed;
+use replay_answer::Replayed;
 use terms::Place;
 ghost use Rattle.mirror.specs.Mirror.{partByte, behind, FromNothing, Shows};
 

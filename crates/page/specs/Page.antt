@@ -8,8 +8,8 @@ use Rattle.terms.specs.declared.Part.the-variants.{Pt6302, Pt6312, Pt6315}
 use Rattle.terms.specs.declared.PartRead.{PartRead}
 use Rattle.terms.specs.declared.PartRead.the-variants.{Is, Refused}
 use Rattle.panel.specs.declared.knowledge.Panel.{Panel}
-use Rattle.replay.specs.declared.answer.Answer.{Answer}
-use Rattle.replay.specs.Answer.{number, place}
+use Rattle.replay_answer.specs.declared.answer.Answer.{Answer}
+use Rattle.replay_answer.specs.Answer.{number, place}
 use Rattle.text.specs.declared.rows.Names.the-variants.{Addresses, Characters}
 use Rattle.text.specs.Text.{newline, decimal, line, lines, named}
 

@@ -1,6 +1,6 @@
 // The whole page of a replay.
 use panel::Panel;
-use replay::Answer;
+use replay_answer::Answer;
 use terms::Part;
 use terms::PartRead;
 use terms::Place;
@@ -15,7 +15,7 @@ ghost use mathlib.Core.Path.{_≡_};
 ghost use Prim.Native.Nat.{_*_, _≤_};
 ghost use lib.ListN.{length};
 ghost use Rattle.terms.specs.Part.{partOf};
-ghost use Rattle.replay.specs.Answer.{number, place};
+ghost use Rattle.replay_answer.specs.Answer.{number, place};
 ghost use Rattle.writing.specs.Writes.{Writes};
 ghost use Rattle.page.specs.Page.{doneAt, refusedAt, memory as Page·memory, digits as Page·digits, rams as Page·rams, page, Prints};
 

@@ -23,9 +23,9 @@ use Rattle.walks.specs.Left.{InTurn}
 use Rattle.parts.specs.Facts.{same?, range, move}
 use Rattle.panel.specs.declared.knowledge.Panel.{Panel}
 use Rattle.panel.specs.View.{good, bad, knownOf, OtherKept}
-use Rattle.replay.specs.declared.answer.Replayed.{Replayed}
-use Rattle.replay.specs.Answer.{number, place, RefusedBy}
-use Rattle.replay.specs.Replay.{ByEnding, Tested, ReplaysPart, Replays}
+use Rattle.replay_answer.specs.declared.answer.Replayed.{Replayed}
+use Rattle.replay_answer.specs.Answer.{number, place, RefusedBy}
+use Rattle.replay_answer.specs.Replay.{ByEnding, Tested, ReplaysPart, Replays}
 
 -- Done: number 0 and the recording's length; the events in turn, and the other half kept.
 pub record PartDone (p : Part) (es : List Event) (k : Panel) (l : List ℕ) (r : Replayed) : Type 0 where

@@ -20,11 +20,11 @@ use Rattle.character_knowledge.specs.Unique as OfCharacter
 use Rattle.panel.specs.declared.knowledge.Panel.{Panel}
 use Rattle.panel.specs.View.{good, bad}
 use Rattle.panel.specs.Unique.{Shaped}
-use Rattle.replay.specs.declared.answer.Answer.{Answer}
-use Rattle.replay.specs.declared.answer.Answer.the-variants.{Done, NoPart, OutOfRange, BeyondEnd, TooLong, Unlisted, Foreign, CutShort, Forbidden}
-use Rattle.replay.specs.declared.answer.Replayed.{Replayed}
-use Rattle.replay.specs.Answer.{number, place, RefusedBy}
-use Rattle.replay.specs.Replay.{SegmentDone, CharacterDone, ByEnding, Tested, Replays}
+use Rattle.replay_answer.specs.declared.answer.Answer.{Answer}
+use Rattle.replay_answer.specs.declared.answer.Answer.the-variants.{Done, NoPart, OutOfRange, BeyondEnd, TooLong, Unlisted, Foreign, CutShort, Forbidden}
+use Rattle.replay_answer.specs.declared.answer.Replayed.{Replayed}
+use Rattle.replay_answer.specs.Answer.{number, place, RefusedBy}
+use Rattle.replay_answer.specs.Replay.{SegmentDone, CharacterDone, ByEnding, Tested, Replays}
 
 -- The answer with a number and a place, and that every answer is the one with its own.
 back : ℕ → Place → Answer

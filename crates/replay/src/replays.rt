@@ -1,16 +1,16 @@
 // The replay for all parts: the part byte is looked at once.
-use crate::answer::Answer;
-use crate::answer::Replayed;
-use crate::characters::character_replay;
-use crate::segments::segment_replay;
+use character_replay::character_replay;
 use panel::Panel;
+use replay_answer::Answer;
+use replay_answer::Replayed;
 use segment::Family;
+use segment_replay::segment_replay;
 use terms::Part;
 use terms::PartRead;
 use terms::Place;
 use terms::part_of;
 ghost use Rattle.terms.specs.Part.{partOf};
-ghost use Rattle.replay.specs.Replay.{Replays, ReplaysPart};
+ghost use Rattle.replay_answer.specs.Replay.{Replays, ReplaysPart};
 
 pub fn replay(part: u8, panel: Panel, recording: &[u8], start: Place) -> Replayed
     ensures { λ r. ⌜ Replays (partOf part) panel (now (recording .entry)) (start .0) r ⌝ }

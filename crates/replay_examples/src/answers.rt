@@ -3,7 +3,7 @@ use example_text::bytes;
 use example_text::character;
 use example_text::number;
 use example_text::text;
-use replay::Answer;
+use replay_answer::Answer;
 use tail::Found;
 
 pub fn replayed(answer: Answer) {

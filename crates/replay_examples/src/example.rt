@@ -5,7 +5,7 @@ use crate::starts;
 use example_text::Word;
 use example_text::show_known;
 use panel::Panel;
-use replay::Replayed;
+use replay_answer::Replayed;
 use terms::Place;
 
 pub struct Example {

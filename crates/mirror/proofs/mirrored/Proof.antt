@@ -4,7 +4,7 @@ use native.Mathlib.Omega.{arith}
 use mathlib.Core.Path.{_≡_, refl, subst}
 use mathlib.Core.List.{List, [], _∷_}
 use lib.ListN.{length, getD, take, drop}
-use Rattle.replay.specs.Laws.{part-from}
+use Rattle.replay_answer.specs.Laws.{part-from}
 use Rattle.mirror.specs.Mirror.{partByte, behind, Shows}
 use borrow.Author.Needs.{needs}
 use Rattle.mirror.proofs.mirrored.Statement.{statement}

@@ -1,6 +1,6 @@
 -- `replay::replays::replay_part` meets its contract: each part goes to its family.
 -- Assumes nothing.
-use Rattle.replay.specs.Replay.{ReplaysPart}
+use Rattle.replay_answer.specs.Replay.{ReplaysPart}
 use mathlib.Core.Path.{subst⁻¹}
 use borrow.Author.Needs.{needs}
 use Rattle.replay.proofs.replays.replay_part.Statement.{statement}

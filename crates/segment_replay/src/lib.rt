@@ -1,9 +1,9 @@
 // The replay for PT6312 and PT6315.
-use crate::answer::Answer;
-use crate::answer::Replayed;
-use crate::answer::refused;
 use panel::Panel;
 use recording::Ending;
+use replay_answer::Answer;
+use replay_answer::Replayed;
+use replay_answer::refused;
 use segment::Family;
 use segment_knowledge::sound;
 use segment_walks::segment_walk;
@@ -12,7 +12,7 @@ use terms::Place;
 ghost use Prim.Native.Nat.{_≤_};
 ghost use lib.ListN.{length, drop};
 ghost use Rattle.recording.specs.Walk.{walked};
-ghost use Rattle.replay.specs.Replay.{SegmentReplays, SegmentWalks};
+ghost use Rattle.replay_answer.specs.Replay.{SegmentReplays, SegmentWalks};
 
 // Tests 2, 4 and 3, then the records.
 pub fn segment_replay(

@@ -6,9 +6,9 @@ use Rattle.recording.specs.declared.read.Refusal.{Refusal}
 use Rattle.recording.specs.declared.read.Refusal.the-variants as Record
 use Rattle.recording.specs.Record as Records
 use Rattle.panel.specs.declared.knowledge.Panel.{Panel}
-use Rattle.replay.specs.declared.answer.Answer.{Answer}
-use Rattle.replay.specs.declared.answer.Answer.the-variants.{Done, NoPart, OutOfRange, BeyondEnd, TooLong, Unlisted, Foreign, CutShort, Forbidden}
-use Rattle.replay.specs.declared.answer.Replayed.{Replayed}
+use Rattle.replay_answer.specs.declared.answer.Answer.{Answer}
+use Rattle.replay_answer.specs.declared.answer.Answer.the-variants.{Done, NoPart, OutOfRange, BeyondEnd, TooLong, Unlisted, Foreign, CutShort, Forbidden}
+use Rattle.replay_answer.specs.declared.answer.Replayed.{Replayed}
 
 abbrev pub number : Answer → ℕ
 number (Done at) = 0

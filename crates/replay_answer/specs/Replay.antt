@@ -26,8 +26,8 @@ use Rattle.character.specs.Move as CharacterMove
 use Rattle.character_knowledge.specs.View as OfCharacter
 use Rattle.panel.specs.declared.knowledge.Panel.{Panel}
 use Rattle.panel.specs.View.{Where}
-use Rattle.replay.specs.declared.answer.Replayed.{Replayed}
-use Rattle.replay.specs.Answer.{number, place, RefusedBy}
+use Rattle.replay_answer.specs.declared.answer.Replayed.{Replayed}
+use Rattle.replay_answer.specs.Answer.{number, place, RefusedBy}
 
 -- Done: number 0 and the recording's length; the events in turn, and the other half kept.
 pub record SegmentDone (p : Family) (es : List Event) (k : Panel) (l : List ℕ) (r : Replayed) : Type 0 where

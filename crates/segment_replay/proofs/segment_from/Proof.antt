@@ -1,12 +1,12 @@
--- `replay::segments::segment_from` meets its contract: by how the walk ends.
+-- `segment_replay::segment_from` meets its contract: by how the walk ends.
 -- Assumes nothing.
 use native.Mathlib.Omega.{arith}
 use mathlib.Core.Path.{refl, sym, _∙_, subst}
 use lib.ListN.{drop, length-drop}
 use Prim.Native.Nat.{_+_}
-use Rattle.replay.specs.Laws.{part-from, left-by}
-use Rattle.replay.specs.Replay.{ends-by}
-use Rattle.replay.specs.Answer.{refused-as}
+use Rattle.replay_answer.specs.Laws.{part-from, left-by}
+use Rattle.replay_answer.specs.Replay.{ends-by}
+use Rattle.replay_answer.specs.Answer.{refused-as}
 use Rattle.recording.specs.Steps.{stops-within}
 use Rattle.recording.specs.Walk.{walked, events, endOf}
 use Rattle.walks.specs.Left.{InTurn}
@@ -16,8 +16,8 @@ use Rattle.segment.specs.Move.{move}
 use Rattle.segment.specs.Fact.{same?, range}
 use Rattle.segment.specs.Family.{sizes}
 use borrow.Author.Needs.{needs}
-use Rattle.replay.proofs.segments.segment_from.Statement.{statement}
-use Rattle.replay.proofs.segments.segment_from.Tie as tie
+use Rattle.segment_replay.proofs.segment_from.Statement.{statement}
+use Rattle.segment_replay.proofs.segment_from.Tie as tie
 
 sub-segment-walk : tie.Need-sub-segment-walk
 sub-segment-walk c = search needs

@@ -3,7 +3,7 @@ use panel::Panel;
 use recording::Refusal;
 use terms::Place;
 ghost use mathlib.Core.Path.{_≡_};
-ghost use Rattle.replay.specs.Answer.{refusedAs};
+ghost use Rattle.replay_answer.specs.Answer.{refusedAs};
 
 // Done, with the recording's length, or why not: numbers 1 to 8, each at its place.
 pub enum Answer {

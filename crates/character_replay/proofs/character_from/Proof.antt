@@ -1,12 +1,12 @@
--- `replay::characters::character_from` meets its contract: by how the walk ends.
+-- `character_replay::character_from` meets its contract: by how the walk ends.
 -- Assumes nothing.
 use native.Mathlib.Omega.{arith}
 use mathlib.Core.Path.{refl, sym, _∙_, subst}
 use lib.ListN.{drop, length-drop}
 use Prim.Native.Nat.{_+_}
-use Rattle.replay.specs.Laws.{part-from, left-by}
-use Rattle.replay.specs.Replay.{ends-by}
-use Rattle.replay.specs.Answer.{refused-as}
+use Rattle.replay_answer.specs.Laws.{part-from, left-by}
+use Rattle.replay_answer.specs.Replay.{ends-by}
+use Rattle.replay_answer.specs.Answer.{refused-as}
 use Rattle.recording.specs.Steps.{stops-within}
 use Rattle.recording.specs.Walk.{walked, events, endOf}
 use Rattle.walks.specs.Left.{InTurn}
@@ -16,8 +16,8 @@ use Rattle.character_knowledge.specs.View.{kview}
 use Rattle.character.specs.Move.{move}
 use Rattle.character.specs.Fact.{same?, range}
 use borrow.Author.Needs.{needs}
-use Rattle.replay.proofs.characters.character_from.Statement.{statement}
-use Rattle.replay.proofs.characters.character_from.Tie as tie
+use Rattle.character_replay.proofs.character_from.Statement.{statement}
+use Rattle.character_replay.proofs.character_from.Tie as tie
 
 sub-character-walk : tie.Need-sub-character-walk
 sub-character-walk c = search needs

@@ -1,4 +1,4 @@
--- `replay::segments::segment_replay` meets its contract: the tests decide, in their order, and the walk does the rest.
+-- `character_replay::character_replay` meets its contract: the tests decide, in their order, and the walk does the rest.
 -- Assumes nothing.
 use native.Mathlib.Omega.{arith}
 use borrow.Author.Tests.{not-true, not-false}
@@ -6,8 +6,8 @@ use mathlib.Core.Bool.{true≢false}
 use mathlib.Core.Path.{refl, sym, _∙_}
 use Rattle.panel.specs.View.{good, bad}
 use borrow.Author.Needs.{needs}
-use Rattle.replay.proofs.segments.segment_replay.Statement.{statement}
-use Rattle.replay.proofs.segments.segment_replay.Tie as tie
+use Rattle.character_replay.proofs.character_replay.Statement.{statement}
+use Rattle.character_replay.proofs.character_replay.Tie as tie
 
 sound-requires : tie.Need-sound-requires
 sound-requires c κs = search needs
@@ -21,12 +21,13 @@ returns-2 c = good (c .before .before .sound .ensures .so (not-false _ (c .befor
 returns-3 : tie.Need-returns-3
 returns-3 c = good (c .before .before .before .sound .ensures .so (not-false _ (c .before .before .if1 .left))) (good (c .before .if2 .left) (bad (λ h. omega (arith, h, c .if3 .taken)) (record { numbered = refl; placed = refl; kept = refl })))
 
-segment-from-requires : tie.Need-segment-from-requires
-segment-from-requires c κs = search needs
+character-from-requires : tie.Need-character-from-requires
+character-from-requires c κs = search needs
 
 returns-4 : tie.Need-returns-4
-returns-4 c = good (c .before .before .before .before .sound .ensures .so (not-false _ (c .before .before .before .if1 .left))) (good (c .before .before .if2 .left) (good (c .before .if3 .left) (c .segment-from .ensures)))
+returns-4 c = good (c .before .before .before .before .sound .ensures .so (not-false _ (c .before .before .before .if1 .left))) (good (c .before .before .if2 .left) (good (c .before .if3 .left) (c .character-from .ensures)))
 
-pub segment-replay-spec : {M : Type 1} → statement M
-segment-replay-spec =
-    tie.close (tie.spec sound-requires returns returns-2 returns-3 segment-from-requires returns-4)
+pub character-replay-spec : {M : Type 1} → statement M
+character-replay-spec =
+    tie.close
+    (tie.spec sound-requires returns returns-2 returns-3 character-from-requires returns-4)

@@ -1,18 +1,18 @@
 // The replay for PT6302.
-use crate::answer::Answer;
-use crate::answer::Replayed;
-use crate::answer::refused;
 use character_knowledge::sound;
 use character_walks::character_walk;
 use panel::Panel;
 use recording::Ending;
+use replay_answer::Answer;
+use replay_answer::Replayed;
+use replay_answer::refused;
 use terms::Part;
 use terms::Place;
 ghost use Prim.Native.Nat.{_≤_};
 ghost use lib.ListN.{length, drop};
 ghost use Rattle.terms.specs.declared.Part.the-variants.{Pt6302};
 ghost use Rattle.recording.specs.Walk.{walked};
-ghost use Rattle.replay.specs.Replay.{CharacterReplays, CharacterWalks};
+ghost use Rattle.replay_answer.specs.Replay.{CharacterReplays, CharacterWalks};
 
 // Tests 2, 4 and 3, then the records.
 pub fn character_replay(panel: Panel, recording: &[u8], start: Place) -> Replayed

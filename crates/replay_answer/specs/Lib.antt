@@ -1,0 +1,3 @@
+pub mod Answer
+pub mod Replay
+pub mod Laws
