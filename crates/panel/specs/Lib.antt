@@ -1,6 +1,2 @@
 pub mod View
-pub mod Event
-pub mod Report
-pub mod Laws
-pub mod Exact
 pub mod Unique

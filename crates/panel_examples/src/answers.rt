@@ -2,8 +2,8 @@
 use example_text::hex;
 use example_text::number;
 use example_text::text;
-use panel::Answer;
-use panel::Report;
+use hearing::Answer;
+use reporting::Report;
 use segment_sent::Sending;
 use terms::Place;
 

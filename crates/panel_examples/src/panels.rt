@@ -7,8 +7,8 @@ use example_text::known_segments;
 use example_text::show_known;
 use example_text::told_characters;
 use example_text::told_segments;
-use panel::Answer;
-use panel::Heard;
+use hearing::Answer;
+use hearing::Heard;
 use panel::Panel;
 use terms::Event;
 
@@ -36,7 +36,7 @@ pub fn after(heard: Heard, line: Line, word: Word) -> Heard {
 }
 
 fn hears(part: u8, panel: Panel, event: Event) -> Heard {
-    panel::hear(part, panel, event)
+    hearing::hear(part, panel, event)
 }
 
 // A word speaks of PT6312 and PT6315 where the byte names no part.
@@ -55,5 +55,5 @@ pub fn show(part: u8, heard: Heard) {
     answers::show(answer);
     let panel = heard.panel;
     show_known(part, panel.segment, panel.character, false, true);
-    answers::tell(panel::next_sent(part, panel));
+    answers::tell(reporting::next_sent(part, panel));
 }

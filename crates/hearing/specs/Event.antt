@@ -1,0 +1,67 @@
+-- The whole answer to one event: paper 01's number and place, and the knowledge, done or refused.
+use Prim.Native.Nat.{ℕ}
+use mathlib.Core.Path.{_≡_}
+use Rattle.knowing.specs.Standing.{Sound}
+use Rattle.knowing.specs.Ways.{Knows}
+use Rattle.terms.specs.declared.Event.{Event}
+use Rattle.terms.specs.declared.Part.{Part}
+use Rattle.terms.specs.declared.PartRead.{PartRead}
+use Rattle.terms.specs.declared.PartRead.the-variants.{Is, Refused}
+use Rattle.terms.specs.Event.{recorded}
+use Rattle.parts.specs.Facts.{same?, range, move}
+use Rattle.recording.specs.declared.read.Read.{Read}
+use Rattle.recording.specs.declared.read.Read.the-variants as Reads
+use Rattle.recording.specs.Record as Record
+use Rattle.recording.specs.Record.{front}
+use Rattle.panel.specs.declared.knowledge.Panel.{Panel}
+use Rattle.hearing.specs.declared.events.Answer.{Answer}
+use Rattle.hearing.specs.declared.events.Answer.the-variants.{Done, NoPart, OutOfRange, Foreign, Forbidden}
+use Rattle.hearing.specs.declared.events.Heard.{Heard}
+use Rattle.panel.specs.View.{knownOf, OtherKept, Where}
+
+-- Paper 01's number for each case, and its place: one event is no recording, so that there is no length to give, and
+-- every place is 0.
+abbrev pub number : Answer → ℕ
+number Done = 0
+number (NoPart at) = 1
+number (OutOfRange at) = 2
+number (Foreign at) = 6
+number (Forbidden at) = 8
+
+abbrev pub place : Answer → ℕ
+place Done = 0
+place (NoPart at) = at .0
+place (OutOfRange at) = at .0
+place (Foreign at) = at .0
+place (Forbidden at) = at .0
+
+-- Refused with the number n: the knowledge comes back as handed in.
+pub record RefusedBy (n : ℕ) (k : Panel) (r : Heard) : Type 0 where
+  pub numbered : number (r .answer) ≡ n
+  pub placed : place (r .answer) ≡ 0
+  pub kept : r .panel ≡ k
+
+-- What is known of the part is what the event's rule makes of it, and the other half is kept.
+pub record After (p : Part) (e : Event) (k r : Panel) : Type 0 where
+  pub known : Knows (knownOf p) (knownOf p) (same? p) (range p) (move p e) k r
+  pub kept : OtherKept p k r
+
+-- Done: number 0, and the knowledge after the event.
+pub record EventDone (p : Part) (e : Event) (k : Panel) (r : Heard) : Type 0 where
+  pub numbered : number (r .answer) ≡ 0
+  pub placed : place (r .answer) ≡ 0
+  pub after : After p e k (r .panel)
+
+-- By what the event's own record is read as: done where it is a record, else refused with that refusal's number.
+abbrev pub AsRecord : Read → Part → Event → Panel → Heard → Type 0
+AsRecord (Reads.Is x m) p e k r = EventDone p e k r
+AsRecord (Reads.Refused x) p e k r = RefusedBy (Record.number x) k r
+
+-- Number 2 exactly where a known value is outside its fact's range; then the event is tested as records are.
+abbrev pub HearsPart : Part → Event → Panel → Heard → Type 0
+HearsPart p e k r = Where (Sound (range p) (knownOf p k)) (AsRecord (front p (recorded e)) p e k r) (RefusedBy 2 k r)
+
+-- Number 1 exactly where the part byte names no part, before anything else is looked at.
+abbrev pub Hears : PartRead → Event → Panel → Heard → Type 0
+Hears (Is p) e k r = HearsPart p e k r
+Hears (Refused at) e k r = RefusedBy 1 k r

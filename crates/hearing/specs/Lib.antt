@@ -1,0 +1,4 @@
+pub mod Event
+pub mod Laws
+pub mod Exact
+pub mod Unique

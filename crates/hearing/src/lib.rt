@@ -1,0 +1,7 @@
+// What one event makes of a panel's knowledge, for all parts.
+mod events;
+mod halves;
+
+pub use events::Answer;
+pub use events::Heard;
+pub use events::hear;
