@@ -12,7 +12,7 @@ forgotten-requires : tie.Need-forgotten-requires
 forgotten-requires c κs = search needs
 
 returns : tie.Need-returns
-returns c = forgotten-steps (c .forgotten .ensures) (λ cells. c .before .no-control .ensures)
+returns c = forgotten-steps {d = c .before .no-control .result} (search needs) (λ cells. c .before .no-control .ensures)
 
 pub lost-spec : {M : Type 1} → statement M
 lost-spec = tie.close (tie.spec no-control-requires forgotten-requires returns)
