@@ -5,6 +5,8 @@ use character::Character;
 use character::Lights;
 use character::Moved;
 use character::Position;
+use example_text::Line;
+use example_text::text;
 use terms::Address;
 
 // A chip in the middle of something, with a value that shows in every fact: all RAMs hold 6E, but ADRAM 2.
@@ -33,6 +35,17 @@ pub fn used() -> Moved {
     }
 }
 
+// After a character that may have ended a record of this part.
+pub fn after(line: Line, moved: Moved) -> Moved {
+    if !line.whole {
+        return moved;
+    }
+    if line.part == 0x02 {
+        return character_machine::moved(moved.chip, line.event());
+    }
+    moved
+}
+
 pub fn show(moved: Moved) {
     let chip = moved.chip;
     print::number(b"    DCRAM at ", chip.dcram_at.0);
@@ -47,13 +60,13 @@ pub fn show(moved: Moved) {
     let at = chip.position;
     position(at);
     let dcram = chip.dcram;
-    print::text(b"\n    D");
+    text(b"\n    D");
     sixteen(dcram, 0x6E);
     let cgram = chip.cgram;
-    print::text(b"; G");
+    text(b"; G");
     forty(cgram, 0x6E);
     let adram = chip.adram;
-    print::text(b"; A");
+    text(b"; A");
     sixteen(adram, 2);
     let any = moved.any;
     anything(any);
@@ -69,27 +82,27 @@ fn forty(cells: [u8; 40], before: u8) {
 
 fn lights(lights: Lights) {
     match lights {
-        Lights::Normal => print::text(b", normal"),
-        Lights::Off => print::text(b", off"),
-        Lights::On => print::text(b", on"),
+        Lights::Normal => text(b", normal"),
+        Lights::Off => text(b", off"),
+        Lights::On => text(b", on"),
     }
 }
 
 fn position(position: Position) {
     match position {
-        Position::Idle => print::text(b", idle"),
-        Position::First => print::text(b", first byte"),
-        Position::Dcram => print::text(b", to DCRAM"),
-        Position::Cgram => print::text(b", to CGRAM"),
-        Position::Adram => print::text(b", to ADRAM"),
-        Position::Ignoring => print::text(b", ignoring"),
+        Position::Idle => text(b", idle"),
+        Position::First => text(b", first byte"),
+        Position::Dcram => text(b", to DCRAM"),
+        Position::Cgram => text(b", to CGRAM"),
+        Position::Adram => text(b", to ADRAM"),
+        Position::Ignoring => text(b", ignoring"),
     }
 }
 
 fn anything(any: Anything) {
-    print::text(b"; anything:");
+    text(b"; anything:");
     print::flag(b" memory", any.memory);
     print::flag(b" settings", any.settings);
     print::flag(b" position", any.position);
-    print::text(b"\n");
+    text(b"\n");
 }

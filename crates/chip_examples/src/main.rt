@@ -2,13 +2,16 @@
 // ends in, and compared with the file stdout, whose values are from paper 01.
 mod characters;
 mod print;
-mod reader;
 mod segments;
 
+use example_text::Line;
+use example_text::Word;
+use example_text::character;
+use example_text::text;
 use input::Input;
 use input::read_input;
 use libc::STDERR_FILENO;
-use reader::Reader;
+use segment::Family;
 
 // A byte more than is taken shows that the input is longer.
 fn main() {
@@ -25,11 +28,35 @@ fn main() {
     }
 }
 
+// The chips are values of their own, beside what was read, so that only what moves them is about them.
 fn run(examples: &[u8]) {
-    let mut reader = Reader::new();
+    let mut word = Word::new();
+    let mut line = Line::new();
+    let mut segment = segments::used();
+    let mut other = characters::used();
     let mut i = 0;
     while i < examples.len() {
-        reader = reader.read(examples[i]);
+        let c = examples[i];
         i += 1;
+        character(c);
+        line = line.with(word, c);
+        word = word.after(c);
+        segment = segments::after(line, segment);
+        other = characters::after(line, other);
+        if c == b'\n' {
+            show(line.part, segment, other);
+            line = Line::new();
+            segment = segments::used();
+            other = characters::used();
+        }
+    }
+}
+
+fn show(part: u8, segment: segment::Moved, other: character::Moved) {
+    match part {
+        0x02 => characters::show(other),
+        0x12 => segments::show(Family::Pt6312, segment),
+        0x15 => segments::show(Family::Pt6315, segment),
+        _ => text(b"    number 1\n"),
     }
 }

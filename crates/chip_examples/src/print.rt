@@ -1,13 +1,6 @@
 // Words and numbers on standard output.
+use example_text::text;
 use libc::STDOUT_FILENO;
-
-pub fn text(words: &[u8]) {
-    io::write_all(STDOUT_FILENO, words);
-}
-
-pub fn character(c: u8) {
-    io::write_all(STDOUT_FILENO, &[c]);
-}
 
 // A name and its number.
 pub fn number(name: &[u8], n: u8) {

@@ -1,5 +1,7 @@
 // PT6312 and PT6315.
 use crate::print;
+use example_text::Line;
+use example_text::text;
 use segment::Anything;
 use segment::Data;
 use segment::Display;
@@ -40,6 +42,19 @@ pub fn used() -> Moved {
     }
 }
 
+// After a character that may have ended a record of one of these parts.
+pub fn after(line: Line, moved: Moved) -> Moved {
+    if !line.whole {
+        return moved;
+    }
+    let part = line.part;
+    match part {
+        0x12 => segment_machine::moved(Family::Pt6312, moved.chip, line.event()),
+        0x15 => segment_machine::moved(Family::Pt6315, moved.chip, line.event()),
+        _ => moved,
+    }
+}
+
 pub fn show(family: Family, moved: Moved) {
     let chip = moved.chip;
     let to = chip.address;
@@ -56,7 +71,7 @@ pub fn show(family: Family, moved: Moved) {
     print::number(b", count ", chip.count);
     let at = chip.position;
     position(at);
-    print::text(b"\n    cells");
+    text(b"\n    cells");
     let cells = chip.cells;
     print::changed(&cells, 0xEE);
     let any = moved.any;
@@ -67,44 +82,44 @@ pub fn show(family: Family, moved: Moved) {
 fn address(address: Pointer) {
     match address {
         Pointer::At(cell) => print::number(b"    address ", cell.0),
-        Pointer::Invalid => print::text(b"    address invalid"),
+        Pointer::Invalid => text(b"    address invalid"),
     }
 }
 
 fn data(data: Data) {
     match data {
-        Data::WriteDisplay => print::text(b", write display"),
-        Data::WriteLed => print::text(b", write LED"),
-        Data::ReadKeys => print::text(b", read keys"),
-        Data::ReadSwitches => print::text(b", read switches"),
+        Data::WriteDisplay => text(b", write display"),
+        Data::WriteLed => text(b", write LED"),
+        Data::ReadKeys => text(b", read keys"),
+        Data::ReadSwitches => text(b", read switches"),
     }
 }
 
 fn stepping(stepping: Stepping) {
     match stepping {
-        Stepping::Increment => print::text(b", increment"),
-        Stepping::Fixed => print::text(b", fixed"),
+        Stepping::Increment => text(b", increment"),
+        Stepping::Fixed => text(b", fixed"),
     }
 }
 
 fn display(display: Display) {
     match display {
-        Display::Off => print::text(b", off"),
-        Display::On => print::text(b", on"),
+        Display::Off => text(b", off"),
+        Display::On => text(b", on"),
     }
 }
 
 fn position(position: Position) {
     match position {
-        Position::Idle => print::text(b", idle"),
-        Position::First => print::text(b", first byte"),
-        Position::Open => print::text(b", open"),
-        Position::Ignoring => print::text(b", ignoring"),
+        Position::Idle => text(b", idle"),
+        Position::First => text(b", first byte"),
+        Position::Open => text(b", open"),
+        Position::Ignoring => text(b", ignoring"),
     }
 }
 
 fn anything(any: Anything) {
-    print::text(b"; anything:");
+    text(b"; anything:");
     print::flag(b" memory", any.memory);
     print::flag(b" data mode", any.data);
     print::flag(b" settings", any.settings);
@@ -115,7 +130,7 @@ fn anything(any: Anything) {
 fn next(family: Family, chip: Segment) {
     match segment_sends::sent_next(family, chip) {
         Sent::Byte(byte) => print::number(b"; sends ", byte),
-        Sent::NotDriven => print::text(b"; not driven"),
+        Sent::NotDriven => text(b"; not driven"),
     }
-    print::text(b"\n");
+    text(b"\n");
 }
