@@ -9,13 +9,13 @@ ghost use mathlib.Core.Path.{_≡_};
 ghost use lib.ListN.{length};
 ghost use Rattle.knowing.specs.Standing.{Within, Sound};
 ghost use Rattle.character.specs.Fact.{range};
-ghost use Rattle.standing.specs.View.{Tells};
+ghost use Rattle.standing.specs.View.{Tests};
 ghost use Rattle.standing.specs.Codes.{RowSound};
 ghost use Rattle.character_knowledge.specs.View.{blank, cview, kview, points};
 ghost use Rattle.character_knowledge.specs.Ranges.{SinglesSound, OthersSound};
 
 pub fn sound(k: Knowledge) -> bool
-    ensures { λ r. ⌜ Tells r (Sound range (kview k)) ⌝ }
+    ensures { λ r. ⌜ Tests r (Sound range (kview k)) ⌝ }
 {
     let dcram = k.dcram;
     let cgram = k.cgram;
@@ -27,20 +27,20 @@ pub fn sound(k: Knowledge) -> bool
 }
 
 fn sixteen_sound(codes: [u16; 16], limit: u16) -> bool
-    ensures { λ r. ⌜ (Tells r (RowSound codes 16 limit)) × (length codes ≡ 16) ⌝ }
+    ensures { λ r. ⌜ (Tests r (RowSound codes 16 limit)) × (length codes ≡ 16) ⌝ }
 {
     all_within(&codes, 16, limit)
 }
 
 fn forty_sound(codes: [u16; 40], limit: u16) -> bool
-    ensures { λ r. ⌜ (Tells r (RowSound codes 40 limit)) × (length codes ≡ 40) ⌝ }
+    ensures { λ r. ⌜ (Tests r (RowSound codes 40 limit)) × (length codes ≡ 40) ⌝ }
 {
     all_within(&codes, 40, limit)
 }
 
 // The addresses, the column, the other settings and the position.
 fn singles_sound(c: Control) -> bool
-    ensures { λ r. ⌜ Tells r (SinglesSound (cview blank c)) ⌝ }
+    ensures { λ r. ⌜ Tests r (SinglesSound (cview blank c)) ⌝ }
 {
     let dcram_at = c.dcram_at;
     let cgram_at = c.cgram_at;
@@ -52,7 +52,7 @@ fn singles_sound(c: Control) -> bool
 }
 
 fn others_sound(c: Control) -> bool
-    ensures { λ r. ⌜ Tells r (OthersSound (cview blank c)) ⌝ }
+    ensures { λ r. ⌜ Tests r (OthersSound (cview blank c)) ⌝ }
 {
     let port = c.port;
     let duty = c.duty;
@@ -67,7 +67,7 @@ fn others_sound(c: Control) -> bool
 }
 
 fn pointing_sound(to: Pointing, cells: u8) -> bool
-    ensures { λ r. ⌜ Tells r (Within cells (points to)) ⌝ }
+    ensures { λ r. ⌜ Tests r (Within cells (points to)) ⌝ }
 {
     match to {
         Pointing::At(cell) => cell.0 < cells,

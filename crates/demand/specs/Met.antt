@@ -19,7 +19,7 @@ use Rattle.segment.specs.Laws as SegmentLaws
 use Rattle.character.specs.Fact as Character
 use Rattle.character.specs.Laws as CharacterLaws
 use Rattle.parts.specs.Facts.{Fact, same?, range, move}
-use Rattle.whole.specs.Sentence.{IsKnown, StartKnows, hasGap, DefinedOn, NoUndefined}
+use Rattle.whole.specs.Sentence.{IsKnown, position, StartKnows, hasGap, DefinedOn, NoUndefined, startsFirst}
 use Rattle.demand.specs.Recording.{eventsFrom}
 
 no-segment-setting : Segment.memory ≡ Segment.setting → ⊥
@@ -51,26 +51,33 @@ powered-knows Pt6302 k = record {
       CharacterLaws.every _ (λ i e. absurd (no-character-setting e)) (λ i e. absurd (no-character-setting e))
       (λ i e. absurd (no-character-setting e)) (λ e. (_, refl)) (λ e. (_, refl)) (λ e. (_, refl)) (λ e. (_, refl))
       (λ e. (_, refl)) (λ e. (_, refl)) (λ e. (_, refl)) (λ e. (_, refl)) (λ e. (_, refl));
-  at-position = (_, refl);
+  position-known = (_, refl);
 }
-powered-knows Pt6312 k = record { settings = powered-segment OfFamily.Pt6312 k; at-position = (_, refl) }
-powered-knows Pt6315 k = record { settings = powered-segment OfFamily.Pt6315 k; at-position = (_, refl) }
+powered-knows Pt6312 k = record { settings = powered-segment OfFamily.Pt6312 k; position-known = (_, refl) }
+powered-knows Pt6315 k = record { settings = powered-segment OfFamily.Pt6315 k; position-known = (_, refl) }
 
--- No gap and no undefined command, where the strobe is high at first.
-abbrev Usual : Part → List ℕ → Type 0
-Usual p l = (hasGap (eventsFrom p 0 l) ≡ false) × NoUndefined (DefinedOn p) false (eventsFrom p 0 l)
+-- And the position is not first byte, so that the first byte behind it is no command.
+pub powered-idle : (p : Part) (k : Fact p → Standing)
+    → startsFirst p (know (same? p) (range p) (move p Power) k (position p)) ≡ false
+powered-idle Pt6302 k = refl
+powered-idle Pt6312 k = refl
+powered-idle Pt6315 k = refl
+
+-- No gap and no undefined command, where the start's position is not first byte.
+abbrev Clean : Part → List ℕ → Type 0
+Clean p l = (hasGap (eventsFrom p 0 l) ≡ false) × NoUndefined (DefinedOn p) false (eventsFrom p 0 l)
 
 -- A byte that is not the first of its strobe is no command.
 later : {D : Type 0} → false ≡ true → D
 later e = absurd (true≢false (sym e))
 
-pub p1-usual : Usual Pt6312 (0x02 ∷ 0x03 ∷ 0xC0 ∷ 0x03 ∷ 0x5A ∷ 0x04 ∷ [])
+pub p1-clean : Clean Pt6312 (0x02 ∷ 0x03 ∷ 0xC0 ∷ 0x03 ∷ 0x5A ∷ 0x04 ∷ [])
 unfolding sizes
-p1-usual = (refl, (λ _. tt, (λ _. tt, (later, (λ _. tt, tt)))))
+p1-clean = (refl, (λ _. tt, (λ _. tt, (later, (λ _. tt, tt)))))
 
-pub p4-usual : Usual Pt6315 (0x02 ∷ 0x03 ∷ 0xE3 ∷ 0x03 ∷ 0x7F ∷ 0x04 ∷ [])
+pub p4-clean : Clean Pt6315 (0x02 ∷ 0x03 ∷ 0xE3 ∷ 0x03 ∷ 0x7F ∷ 0x04 ∷ [])
 unfolding sizes
-p4-usual = (refl, (λ _. tt, (λ _. tt, (later, (λ _. tt, tt)))))
+p4-clean = (refl, (λ _. tt, (λ _. tt, (later, (λ _. tt, tt)))))
 
-pub p11-usual : Usual Pt6302 (0x02 ∷ 0x03 ∷ 0x1F ∷ 0x03 ∷ 0x41 ∷ 0x03 ∷ 0x42 ∷ 0x04 ∷ [])
-p11-usual = (refl, (λ _. tt, (λ _. tt, (later, (later, (λ _. tt, tt))))))
+pub p11-clean : Clean Pt6302 (0x02 ∷ 0x03 ∷ 0x1F ∷ 0x03 ∷ 0x41 ∷ 0x03 ∷ 0x42 ∷ 0x04 ∷ [])
+p11-clean = (refl, (λ _. tt, (λ _. tt, (later, (later, (λ _. tt, tt))))))

@@ -74,7 +74,7 @@ module _ (b : ℕ) (p : Part) (named : partOf b ≡ Is p) (pic : Picture) (shape
     λ c. subst⁻¹ (λ (es : List Event). OneEnd (range p) (map (move p) es) c (paintedBy p pic c)) (reads .1) (painting-paints p pic shaped fits c),
   )
 
-  -- The bytes that `paint` wrote, replayed from any good knowledge: accepted, and every fact that a painting settles
+  -- The bytes that `paint` wrote, replayed from any knowledge in range: accepted, and every fact that a painting settles
   -- is known, as `repaintedBy` says; the others are known as they were.
   pub paint-replays : (k : Panel) (q : Replayed) → Sound (range p) (knownOf p k) → Replays (partOf b) k stream 0 q
       → (Replay.number (q .answer) ≡ 0) × (Replay.place (q .answer) ≡ sizeFor p)

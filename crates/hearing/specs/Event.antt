@@ -35,7 +35,7 @@ place (OutOfRange at) = at .0
 place (Foreign at) = at .0
 place (Forbidden at) = at .0
 
--- Refused with the number n: the knowledge comes back as handed in.
+-- Refused with the number n, at place 0: the knowledge comes back as handed in.
 pub record RefusedBy (n : ℕ) (k : Panel) (r : Heard) : Type 0 where
   pub numbered : number (r .answer) ≡ n
   pub placed : place (r .answer) ≡ 0

@@ -6,7 +6,7 @@ use terms::Part;
 ghost use mathlib.Core.Path.{_≡_};
 ghost use Rattle.knowing.specs.Standing.{Sound};
 ghost use Rattle.parts.specs.Facts.{range};
-ghost use Rattle.standing.specs.View.{Tells};
+ghost use Rattle.standing.specs.View.{Tests};
 ghost use Rattle.segment.specs.Family.{sizes};
 ghost use Rattle.segment.specs.Move as SegmentMove;
 ghost use Rattle.segment_knowledge.specs.View as OfSegment;
@@ -17,7 +17,7 @@ ghost use Rattle.panel.specs.View.{knownOf};
 
 // Every known value is in its fact's range.
 pub fn in_range(part: Part, panel: Panel) -> bool
-    ensures { λ r. ⌜ Tells r (Sound (range part) (knownOf part panel)) ⌝ }
+    ensures { λ r. ⌜ Tests r (Sound (range part) (knownOf part panel)) ⌝ }
 {
     let segment = panel.segment;
     let character = panel.character;

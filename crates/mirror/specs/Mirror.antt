@@ -25,7 +25,7 @@ pub record FromNothing (part : ℕ) (recording : List ℕ) (r : Replayed) : Type
   pub nothing : KnowsNothing before
   pub replays : Replays (partOf part) before recording 0 r
 
--- The page of that replay is what is written.
+-- The page of that replay is what is written, where the output has room (`page/Page.Prints`).
 pub record Shows (part : ℕ) (recording out : List ℕ) (r : ℕ) (out′ : List ℕ) : Type 0 where
   pub after : Replayed
   pub replayed : FromNothing part recording after

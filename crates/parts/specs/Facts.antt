@@ -12,6 +12,8 @@ use Rattle.segment.specs.Move as SegmentMove
 use Rattle.character.specs.Fact as Character
 use Rattle.character.specs.Move as CharacterMove
 
+-- The type also names what a part lacks (a cell past its last, PT6312's fourth key byte, PT6315's switches): whatever that
+-- holds is in range, and no rule looks at it (`segment/Fact.lacking`).
 abbrev pub Fact : Part → Type 0
 Fact Pt6302 = Character.Fact
 Fact Pt6312 = Segment.Fact

@@ -11,13 +11,13 @@ ghost use Prim.Native.Nat.{suc, _≤_};
 ghost use Rattle.knowing.specs.Standing.{Within, Sound, unknown};
 ghost use Rattle.segment.specs.Fact.{range, dataMode, switches};
 ghost use Rattle.segment.specs.Family.{sizes};
-ghost use Rattle.standing.specs.View.{stands, Tells};
+ghost use Rattle.standing.specs.View.{stands, Tests};
 ghost use Rattle.standing.specs.Codes.{RowSound, Small};
 ghost use Rattle.segment_knowledge.specs.View.{kview, cview, points};
 ghost use Rattle.segment_knowledge.specs.Ranges.{SinglesSound, OthersSound};
 
 pub fn sound(family: Family, k: Knowledge) -> bool
-    ensures { λ r. ⌜ Tells r (Sound (range (sizes family)) (kview k)) ⌝ }
+    ensures { λ r. ⌜ Tests r (Sound (range (sizes family)) (kview k)) ⌝ }
 {
     let sizes = family.sizes();
     let cells = k.cells;
@@ -32,21 +32,21 @@ pub fn sound(family: Family, k: Knowledge) -> bool
 
 fn cells_sound(cells: [u16; 36], count: u8) -> bool
     requires { ⌜ count ≤ 36 ⌝ }
-    ensures { λ r. ⌜ (Tells r (RowSound cells count 256)) × (Small cells) ⌝ }
+    ensures { λ r. ⌜ (Tests r (RowSound cells count 256)) × (Small cells) ⌝ }
 {
     all_within(&cells, count as usize, 256)
 }
 
 fn keys_sound(keys: [u16; 4], count: u8) -> bool
     requires { ⌜ count ≤ 4 ⌝ }
-    ensures { λ r. ⌜ (Tells r (RowSound keys count 256)) × (Small keys) ⌝ }
+    ensures { λ r. ⌜ (Tests r (RowSound keys count 256)) × (Small keys) ⌝ }
 {
     all_within(&keys, count as usize, 256)
 }
 
 // The settings, the switches and the position.
 fn singles_sound(family: Family, c: Control) -> bool
-    ensures { λ r. ⌜ Tells r (SinglesSound (sizes family) (cview (λ i. unknown) c)) ⌝ }
+    ensures { λ r. ⌜ Tests r (SinglesSound (sizes family) (cview (λ i. unknown) c)) ⌝ }
 {
     let sizes = family.sizes();
     let address = c.address;
@@ -65,7 +65,7 @@ fn singles_sound(family: Family, c: Control) -> bool
 
 // The single facts whose ranges both parts share.
 fn others_sound(c: Control) -> bool
-    ensures { λ r. ⌜ Tells r (OthersSound (cview (λ i. unknown) c)) ⌝ }
+    ensures { λ r. ⌜ Tests r (OthersSound (cview (λ i. unknown) c)) ⌝ }
 {
     let dimming = c.dimming;
     let display = c.display;
@@ -80,7 +80,7 @@ fn others_sound(c: Control) -> bool
 }
 
 fn mode_sound(mode: Standing, top: u8) -> bool
-    ensures { λ r. ⌜ Tells r (Within (suc top) (stands mode)) ⌝ }
+    ensures { λ r. ⌜ Tests r (Within (suc top) (stands mode)) ⌝ }
 {
     match mode {
         Standing::Known(code) => code <= top,
@@ -89,7 +89,7 @@ fn mode_sound(mode: Standing, top: u8) -> bool
 }
 
 fn data_sound(family: Family, data: Standing) -> bool
-    ensures { λ r. ⌜ Tells r (Within (range (sizes family) dataMode) (stands «data»)) ⌝ }
+    ensures { λ r. ⌜ Tests r (Within (range (sizes family) dataMode) (stands «data»)) ⌝ }
 {
     match family {
         Family::Pt6312 => within(data, 4),
@@ -98,7 +98,7 @@ fn data_sound(family: Family, data: Standing) -> bool
 }
 
 fn switches_sound(family: Family, value: Standing) -> bool
-    ensures { λ r. ⌜ Tells r (Within (range (sizes family) switches) (stands value)) ⌝ }
+    ensures { λ r. ⌜ Tests r (Within (range (sizes family) switches) (stands value)) ⌝ }
 {
     let low = within(value, 16);
     match family {
@@ -108,7 +108,7 @@ fn switches_sound(family: Family, value: Standing) -> bool
 }
 
 fn pointing_sound(to: Pointing, cells: u8) -> bool
-    ensures { λ r. ⌜ Tells r (Within (suc cells) (points to)) ⌝ }
+    ensures { λ r. ⌜ Tests r (Within (suc cells) (points to)) ⌝ }
 {
     match to {
         Pointing::At(cell) => cell.0 < cells,

@@ -17,7 +17,7 @@ use Rattle.rules.specs.Choice.{whether}
 use Rattle.knowing.specs.Standing.{Standing, known, unknown, Within}
 use Rattle.knowing.specs.Know.{join, keptIf, lifted}
 use Rattle.knowing.specs.Join.{not-known, known-one, join-both, join-other}
-use Rattle.standing.specs.View.{coded, Tells}
+use Rattle.standing.specs.View.{coded, Tests}
 
 -- A list of one number, and that number behind it.
 pub getD-same : (n i a : ℕ) → getD (replicate n a) i a ≡ a
@@ -171,8 +171,8 @@ all-more l n limit all h w i o = go (ℕ-discrete i n)
     go (no p) = all i (omega arith)
 
 -- One code that is not within the limit is enough.
-pub one-beyond : (l : List ℕ) (count n limit : ℕ) (b : Bool) → Tells b (Within limit (coded (getD l n 0))) → b ≡ false → n < count → n < length l
-    → Tells false ((i : ℕ) → i < count → Within limit (coded (getD l i 256)))
+pub one-beyond : (l : List ℕ) (count n limit : ℕ) (b : Bool) → Tests b (Within limit (coded (getD l n 0))) → b ≡ false → n < count → n < length l
+    → Tests false ((i : ℕ) → i < count → Within limit (coded (getD l i 256)))
 one-beyond l count n limit b t e h o = record {
   so = λ z. absurd (true≢false (sym z));
   back = λ all. absurd (true≢false (sym (t .back (rw (default-free l n 0 256 o) (all n h))) ∙ e));

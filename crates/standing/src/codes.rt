@@ -5,7 +5,7 @@ ghost use mathlib.Core.Path.{_≡_};
 ghost use Prim.Native.Nat.{ℕ, _+_, _*_, _<_, _≤_};
 ghost use lib.ListN.{length, getD};
 ghost use Rattle.knowing.specs.Standing.{Within};
-ghost use Rattle.standing.specs.View.{coded, Tells};
+ghost use Rattle.standing.specs.View.{coded, Tests};
 ghost use Rattle.standing.specs.Codes.{bothCodes, Joined, Met, RowSound, Small};
 ghost use Rattle.standing.specs.Change.{Inside, Changes};
 ghost use Rattle.standing.specs.declared.change.Change.the-variants.{Put, Meet};
@@ -67,7 +67,7 @@ pub fn meet_all(codes: &mut [u16], from: Address, by: u8, count: u8, byte: u8)
 }
 
 fn code_within(code: u16, limit: u16) -> bool
-    ensures { λ r. ⌜ Tells r (Within limit (coded code)) ⌝ }
+    ensures { λ r. ⌜ Tests r (Within limit (coded code)) ⌝ }
 {
     if code == 256 {
         return true;
@@ -78,7 +78,7 @@ fn code_within(code: u16, limit: u16) -> bool
 // What is known of the first `count` codes is below the limit. Whatever they are, they are numbers of two bytes.
 pub fn all_within(codes: &[u16], count: usize, limit: u16) -> bool
     requires { ⌜ count ≤ length (now codes) ⌝ }
-    ensures { λ r. ⌜ (Tells r (RowSound (now (codes .entry)) count limit)) × (Small (now (codes .entry))) ⌝ }
+    ensures { λ r. ⌜ (Tests r (RowSound (now (codes .entry)) count limit)) × (Small (now (codes .entry))) ⌝ }
 {
     let mut i = 0;
     while i < count {

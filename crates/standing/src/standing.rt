@@ -3,7 +3,7 @@ ghost use mathlib.Core.Path.{_≡_};
 ghost use mathlib.Core.Bool.{_&&_};
 ghost use Rattle.knowing.specs.Standing.{Within};
 ghost use Rattle.knowing.specs.Know.{join};
-ghost use Rattle.standing.specs.View.{stands, Tells};
+ghost use Rattle.standing.specs.View.{stands, Tests};
 
 // Known, with its value's number, or unknown.
 pub enum Standing {
@@ -32,7 +32,7 @@ pub fn both_standing(a: Standing, b: Standing) -> Standing
 
 // What is known is below the limit. Whatever it is, it is a byte.
 pub fn within(s: Standing, limit: u8) -> bool
-    ensures { λ r. ⌜ (Tells r (Within limit (stands s))) × (Within 256 (stands s)) ⌝ }
+    ensures { λ r. ⌜ (Tests r (Within limit (stands s))) × (Within 256 (stands s)) ⌝ }
 {
     match s {
         Standing::Known(v) => v < limit,

@@ -29,7 +29,8 @@ decimalIn (suc k) n = whether (ltb n 10) (digit n ∷ []) (decimalIn k (n / 10) 
 abbrev pub decimal : ℕ → List ℕ
 decimal n = decimalIn 20 n
 
--- What is known of a cell: a code below 256 is that byte, and any other is not known.
+-- What is known of a cell: a code below 256 is that byte; 256 is not known, and a code above it, which number 2
+-- refuses, prints the same.
 abbrev pub shown : ℕ → List ℕ
 shown c = whether (ltb c 256) (hex c) (code "?" ∷ code "?" ∷ [])
 

@@ -50,9 +50,9 @@ steered : (p : Part) (k : Fact p → Standing) → StartKnows p k → KnowsSteer
 steered Pt6302 k h =
     CharacterLaws.every _ (λ i n. absurd n) (λ i n. absurd n) (λ i n. absurd n) (λ _. h .settings CharacterFact.dcramAt refl) (λ _. h .settings CharacterFact.cgramAt refl)
     (λ _. h .settings CharacterFact.adramAt refl) (λ _. h .settings CharacterFact.column refl) (λ _. h .settings CharacterFact.port refl)
-    (λ _. h .settings CharacterFact.duty refl) (λ _. h .settings CharacterFact.digits refl) (λ _. h .settings CharacterFact.lights refl) (λ _. h .at-position)
-steered Pt6312 k h = segment-steered k (h .settings) (h .at-position)
-steered Pt6315 k h = segment-steered k (h .settings) (h .at-position)
+    (λ _. h .settings CharacterFact.duty refl) (λ _. h .settings CharacterFact.digits refl) (λ _. h .settings CharacterFact.lights refl) (λ _. h .position-known)
+steered Pt6312 k h = segment-steered k (h .settings) (h .position-known)
+steered Pt6315 k h = segment-steered k (h .settings) (h .position-known)
 
 -- No gap and, where the position is known to be first byte, no undefined command: the rule is clear.
 abbrev Usual : (p : Part) → Event → (Fact p → Standing) → Type 0
@@ -80,7 +80,7 @@ module _ (p : Part) (es : List Event) (k : Fact p → Standing) (carried : Each 
   some f = let t = two p f in omega arith
 
   taken : Takes (range p) (move p) (Usual p) es (filled 0 k)
-  taken = takes (range p) (move p) (position p) (DefinedOn p) (onward p) es (startsFirst p (k (position p))) (filled 0 k) gapless defined (starts p (k (position p)) (start .at-position))
+  taken = takes (range p) (move p) (position p) (DefinedOn p) (onward p) es (startsFirst p (k (position p))) (filled 0 k) gapless defined (starts p (k (position p)) (start .position-known))
 
   -- Any fact is known at the end exactly when every fitting chip ends with the same value there, and has that value.
   pub facts-exact : (f : Fact p) → ExactAtEnd (same? p) (range p) (map (move p) es) k f

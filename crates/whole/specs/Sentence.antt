@@ -44,7 +44,7 @@ IsKnown s = (v : ℕ) × (s ≡ known v)
 
 pub record StartKnows (p : Part) (k : Fact p → Standing) : Type 0 where
   pub settings : (f : Fact p) → IsSetting p f → IsKnown (k f)
-  pub at-position : IsKnown (k (position p))
+  pub position-known : IsKnown (k (position p))
 
 -- 2. "The recording has no gap."
 
@@ -66,7 +66,7 @@ hasGap (e ∷ es) = isGap e || hasGap es
 -- 3. "And no undefined command."
 
 -- A byte is a command if it is the first behind a fall of the strobe. Whether the next byte in would be one, after an
--- event, by whether it would have been one before.
+-- event, by whether it would have been one before; a gap is excluded by 2.
 abbrev pub awaits : Event → Bool → Bool
 awaits Power first = false
 awaits Falls first = true
@@ -102,7 +102,7 @@ abbrev pub NoUndefined : (ℕ → Type 0) → Bool → List Event → Type 0
 NoUndefined Defined first [] = Unit
 NoUndefined Defined first (e ∷ es) = (first ≡ true → BringsDefined Defined e) × NoUndefined Defined (awaits e first) es
 
--- At the start it is a command where the position is first byte.
+-- At the start it is a command where the position is first byte; an unknown position is excluded by 1.
 abbrev pub firstByte : Part → ℕ
 firstByte Pt6302 = CharacterValue.at-position CharacterPosition.First
 firstByte Pt6312 = SegmentValue.at-position SegmentPosition.First

@@ -18,6 +18,7 @@ abbrev pub Chain : {F : Type 0} → (F → ℕ) → List (Rule F F) → (F → S
 Chain {F} range [] k r = (f : F) → r f ≡ k f
 Chain {F} range (rule ∷ rules) k r = (l : F → Standing) × ExactFrom range rule k l × Chain range rules l r
 
--- "A start that knows more, and contradicts nothing": l knows all that k knows, with the same values.
+-- "A start that knows more, and contradicts nothing", read from right to left: l knows at least what k knows, with the
+-- same values.
 abbrev pub KnowsAtLeast : {F : Type 0} → (F → Standing) → (F → Standing) → Type 0
 KnowsAtLeast {F} k l = (f : F) (v : ℕ) → k f ≡ known v → l f ≡ known v
