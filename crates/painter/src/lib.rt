@@ -1,10 +1,9 @@
 // The painter: a part byte, a wanted picture and a lent output become the recording that paints the picture.
 
-use painting::Painted;
+pub use painting::Painted;
 use painting::Picture;
 use terms::Part;
 use terms::PartRead;
-use terms::Place;
 ghost use mathlib.Core.Path.{_≡_};
 ghost use lib.ListN.{length};
 ghost use Rattle.terms.specs.Part.{partOf};
