@@ -4,6 +4,7 @@ use mathlib.Core.List.{List}
 use lib.ListN.{take}
 use Rattle.segment.specs.declared.chip.Family.{Family}
 use Rattle.segment.specs.declared.chip.Family.the-variants.{Pt6312, Pt6315}
+use Rattle.segment.specs.Family.{sizes}
 use Rattle.standing.specs.declared.standing.Standing.{Standing}
 use Rattle.segment_knowledge.specs.declared.control.Pointing.{Pointing}
 use Rattle.segment_knowledge.specs.declared.control.Pointing.the-variants.{At, Invalid, Unknown}
@@ -17,13 +18,12 @@ addressCode (At cell) = cell .0
 addressCode Invalid = 255
 addressCode Unknown = 256
 
+-- The cells, and the key bytes, that the part has.
 abbrev pub cellSum : ℕ → Family → List ℕ → ℕ
-cellSum sum Pt6312 cells = allTaken sum (take 22 cells)
-cellSum sum Pt6315 cells = allTaken sum cells
+cellSum sum family cells = allTaken sum (take (sizes family .cells) cells)
 
 abbrev pub keySum : ℕ → Family → List ℕ → ℕ
-keySum sum Pt6312 keys = allTaken sum (take 3 keys)
-keySum sum Pt6315 keys = allTaken sum keys
+keySum sum family keys = allTaken sum (take (sizes family .keys) keys)
 
 abbrev pub switchSum : ℕ → Family → Standing → ℕ
 switchSum sum Pt6312 switches = taken sum (factCode switches)

@@ -5,14 +5,16 @@ use segment_knowledge::Knowledge;
 use segment_knowledge::Pointing;
 use standing::Standing;
 ghost use mathlib.Core.Path.{_≡_};
-ghost use Rattle.bench.specs.Sum.{taken};
-ghost use Rattle.bench.specs.Segments.{addressCode, cellSum, keySum, switchSum, segmentSum};
+ghost use lib.ListN.{take};
+ghost use Rattle.bench.specs.Sum.{taken, allTaken};
+ghost use Rattle.bench.specs.Segments.{addressCode, switchSum, segmentSum};
 
 pub fn all(sum: Sum, family: Family, k: Knowledge) -> Sum
     ensures { λ r. ⌜ r .0 ≡ segmentSum (sum .0) family k ⌝ }
 {
+    let sizes = family.sizes();
     let memory = k.cells;
-    let stored = cells(sum, family, memory);
+    let stored = cells(sum, sizes.cells, memory);
     let c = k.control;
     let to = c.address;
     let addressed = address(stored, to);
@@ -30,7 +32,7 @@ pub fn all(sum: Sum, family: Family, k: Knowledge) -> Sum
         .fact(display)
         .fact(led);
     let pressed = c.keys;
-    let latched = keys(set, family, pressed);
+    let latched = keys(set, sizes.keys, pressed);
     let switches = c.switches;
     let switched = switches_in(latched, family, switches);
     let count = c.count;
@@ -38,13 +40,10 @@ pub fn all(sum: Sum, family: Family, k: Knowledge) -> Sum
     switched.fact(count).fact(position)
 }
 
-fn cells(sum: Sum, family: Family, cells: [u16; 36]) -> Sum
-    ensures { λ r. ⌜ r .0 ≡ cellSum (sum .0) family cells ⌝ }
+fn cells(sum: Sum, n: u8, row: [u16; 36]) -> Sum
+    ensures { λ r. ⌜ r .0 ≡ allTaken (sum .0) (take n row) ⌝ }
 {
-    match family {
-        Family::Pt6312 => sum.codes(&cells[..22]),
-        Family::Pt6315 => sum.codes(&cells),
-    }
+    sum.first(n, &row)
 }
 
 fn address(sum: Sum, fact: Pointing) -> Sum
@@ -64,13 +63,10 @@ fn code(fact: Pointing) -> u16
     }
 }
 
-fn keys(sum: Sum, family: Family, keys: [u16; 4]) -> Sum
-    ensures { λ r. ⌜ r .0 ≡ keySum (sum .0) family keys ⌝ }
+fn keys(sum: Sum, n: u8, row: [u16; 4]) -> Sum
+    ensures { λ r. ⌜ r .0 ≡ allTaken (sum .0) (take n row) ⌝ }
 {
-    match family {
-        Family::Pt6312 => sum.codes(&keys[..3]),
-        Family::Pt6315 => sum.codes(&keys),
-    }
+    sum.first(n, &row)
 }
 
 fn switches_in(sum: Sum, family: Family, fact: Standing) -> Sum

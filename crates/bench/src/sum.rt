@@ -3,6 +3,7 @@ use standing::Standing;
 use terms::Place;
 ghost use mathlib.Core.Path.{_≡_};
 ghost use Prim.Native.Nat.{_%_};
+ghost use lib.ListN.{take};
 ghost use Rattle.bench.specs.Sum.{taken, allTaken, factCode};
 
 pub struct Sum(pub u32);
@@ -26,6 +27,16 @@ impl Sum {
         ensures { λ r. ⌜ r .0 ≡ taken (self .0) (factCode fact) ⌝ }
     {
         self.take(code(fact))
+    }
+
+    // The first n of them, which are those that the part has.
+    pub fn first(self, n: u8, codes: &[u16]) -> Sum
+        ensures { λ r. ⌜ r .0 ≡ allTaken (self .0) (take n (now (codes .entry))) ⌝ }
+    {
+        if (n as usize) < codes.len() {
+            return self.codes(&codes[..n as usize]);
+        }
+        self.codes(codes)
     }
 
     pub fn codes(self, codes: &[u16]) -> Sum

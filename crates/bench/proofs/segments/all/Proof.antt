@@ -3,6 +3,9 @@ use borrow.Author.Needs.{needs}
 use Rattle.bench.proofs.segments.all.Statement.{statement}
 use Rattle.bench.proofs.segments.all.Tie as tie
 
+sizes-requires : tie.Need-sizes-requires
+sizes-requires c κs = search needs
+
 cells-requires : tie.Need-cells-requires
 cells-requires c κs = search needs
 
@@ -54,12 +57,14 @@ returns c =
       c .before .before .before .before .before .before .before .before .before .before .fact .ensures,
       c .before .before .before .before .before .before .before .before .before .before .before .address .ensures,
       c .before .before .before .before .before .before .before .before .before .before .before .before .before .cells .ensures,
+      c .before .before .before .before .before .before .before .before .before .before .before .before .before .before .before .sizes .ensures,
     )
 
 pub all-spec : {M : Type 1} → statement M
 all-spec =
     tie.close
     (tie.spec
+    sizes-requires
     cells-requires
     address-requires
     fact-requires
