@@ -1,10 +1,7 @@
 -- What holds of every part's facts and moves: the two families' own laws, by the part.
 use Prim.Native.Nat.{ℕ, _≤_}
-use mathlib.Core.Path.{_≡_, refl}
-use Rattle.rules.specs.Rule.{Rule, gives, free}
 use Rattle.rules.specs.Range.{Ranged}
 use Rattle.terms.specs.declared.Event.{Event}
-use Rattle.terms.specs.declared.Event.the-variants.{Gap}
 use Rattle.terms.specs.Event.{Bytes}
 use Rattle.terms.specs.declared.Part.{Part}
 use Rattle.terms.specs.declared.Part.the-variants.{Pt6302, Pt6312, Pt6315}
@@ -25,9 +22,3 @@ pub ranged : (p : Part) (e : Event) → Bytes e → Ranged (range p) (range p) (
 ranged Pt6302 = Character.ranged
 ranged Pt6312 = Segment.ranged (sizes OfFamily.Pt6312) (Segment.proper OfFamily.Pt6312)
 ranged Pt6315 = Segment.ranged (sizes OfFamily.Pt6315) (Segment.proper OfFamily.Pt6315)
-
--- Gap: every fact anything, on every part.
-pub gap-frees : (p : Part) → move p Gap ≡ gives (λ f. free)
-gap-frees Pt6302 = refl
-gap-frees Pt6312 = refl
-gap-frees Pt6315 = refl
