@@ -1,4 +1,1 @@
-pub mod Sum
-pub mod Characters
-pub mod Segments
 pub mod Rounds

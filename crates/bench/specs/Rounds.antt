@@ -1,36 +1,14 @@
 -- What the program gives: the checksum of rounds that replay one recording from knowing nothing.
-use Prim.Native.Nat.{ℕ, zero, suc, _+_, _*_, _%_}
+use Prim.Native.Nat.{ℕ, zero, suc, _+_, _*_}
 use mathlib.Core.Path.{_≡_}
 use mathlib.Core.List.{List}
 use lib.ListN.{getD, drop}
 use Rattle.terms.specs.Part.{partOf}
-use Rattle.terms.specs.declared.Part.{Part}
-use Rattle.terms.specs.declared.Part.the-variants.{Pt6302, Pt6312, Pt6315}
-use Rattle.terms.specs.declared.PartRead.{PartRead}
-use Rattle.terms.specs.declared.PartRead.the-variants.{Is, Refused}
-use Rattle.segment.specs.declared.chip.Family.the-variants as OfFamily
 use Rattle.panel.specs.declared.knowledge.Panel.{Panel}
 use Rattle.panel.specs.View.{KnowsNothing}
-use Rattle.replay_answer.specs.declared.answer.Answer.{Answer}
 use Rattle.replay_answer.specs.declared.answer.Replayed.{Replayed}
-use Rattle.replay_answer.specs.Answer.{number, place}
 use Rattle.replay_answer.specs.Replay.{Replays}
-use Rattle.bench.specs.Sum.{taken}
-use Rattle.bench.specs.Characters.{characterSum}
-use Rattle.bench.specs.Segments.{segmentSum}
-
--- Paper 01's number and the place.
-abbrev pub answerSum : ℕ → Answer → ℕ
-answerSum sum answer = taken (taken sum (number answer)) (place answer % 65536)
-
-abbrev pub panelSum : ℕ → Part → Panel → ℕ
-panelSum sum Pt6302 k = characterSum sum (k .character)
-panelSum sum Pt6312 k = segmentSum sum OfFamily.Pt6312 (k .segment)
-panelSum sum Pt6315 k = segmentSum sum OfFamily.Pt6315 (k .segment)
-
-abbrev pub partSum : ℕ → PartRead → Panel → ℕ
-partSum sum (Is part) k = panelSum sum part k
-partSum sum (Refused at) k = sum
+use Rattle.checksum.specs.Panels.{answerSum, partSum}
 
 -- One round: a replay from knowing nothing, whose answer and facts go into the checksum.
 pub record Round (part : ℕ) (recording : List ℕ) (old new : ℕ) : Type 0 where

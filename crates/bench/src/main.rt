@@ -2,25 +2,18 @@
 //
 // Standard input is a count of rounds in two bytes, the low byte first, then what the mirror reads: the part byte and a recording. Each round replays
 // the recording from knowing nothing, and its answer and every fact that it ends with go into the checksum, so that no round can be left out.
-mod characters;
-mod segments;
-mod sum;
-
+use checksum::Sum;
+use checksum::answer_in;
+use checksum::panel_in;
 use input::Input;
 use input::read_input;
 use libc::STDOUT_FILENO;
-use panel::Panel;
-use replay_answer::Answer;
-use segment::Family;
-use sum::Sum;
-use terms::Part;
 use terms::PartRead;
 use terms::Place;
 ghost use mathlib.Core.Path.{_≡_};
 ghost use Prim.Native.Nat.{_+_, _*_};
 ghost use lib.ListN.{getD};
-ghost use Rattle.replay_answer.specs.Answer.{number, place};
-ghost use Rattle.bench.specs.Rounds.{answerSum, panelSum, Round, Rounds, Measures};
+ghost use Rattle.bench.specs.Rounds.{Round, Rounds, Measures};
 
 // As the mirror does, it takes a byte more than the longest recording that is allowed.
 fn main() {
@@ -85,42 +78,5 @@ fn round(sum: Sum, part: u8, recording: &[u8]) -> Sum
     match terms::part_of(part) {
         PartRead::Is(is) => panel_in(answered, is, after),
         PartRead::Refused(_) => answered,
-    }
-}
-
-// Paper 01's number and the place.
-fn answer_in(sum: Sum, answer: Answer) -> Sum
-    ensures { λ r. ⌜ r .0 ≡ answerSum (sum .0) answer ⌝ }
-{
-    let told = told_of(answer);
-    sum.take(told.0).place(told.1)
-}
-
-struct Told(u16, Place);
-
-fn told_of(answer: Answer) -> Told
-    ensures { λ r. ⌜ (r .0 ≡ number answer) × (r .1 .0 ≡ place answer) ⌝ }
-{
-    match answer {
-        Answer::Done(at) => Told(0, at),
-        Answer::NoPart(at) => Told(1, at),
-        Answer::OutOfRange(at) => Told(2, at),
-        Answer::BeyondEnd(at) => Told(3, at),
-        Answer::TooLong(at) => Told(4, at),
-        Answer::Unlisted(at) => Told(5, at),
-        Answer::Foreign(at) => Told(6, at),
-        Answer::CutShort(at) => Told(7, at),
-        Answer::Forbidden(at) => Told(8, at),
-    }
-}
-
-// The facts of the part, in paper 01's order.
-fn panel_in(sum: Sum, part: Part, panel: Panel) -> Sum
-    ensures { λ r. ⌜ r .0 ≡ panelSum (sum .0) part panel ⌝ }
-{
-    match part {
-        Part::Pt6302 => characters::all(sum, panel.character),
-        Part::Pt6312 => segments::all(sum, Family::Pt6312, panel.segment),
-        Part::Pt6315 => segments::all(sum, Family::Pt6315, panel.segment),
     }
 }

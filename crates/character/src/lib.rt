@@ -6,6 +6,7 @@ pub use chip::Anything;
 pub use chip::Character;
 pub use chip::Lights;
 pub use chip::Moved;
+pub use chip::NONE;
 pub use chip::Position;
 pub use command::Command;
 pub use command::command_of;

@@ -1,15 +1,12 @@
-// What is known of a PT6302 panel, as a value, and what two such knowledges have in common.
+// What is known of a PT6302 panel, as a value.
 mod control;
-mod join;
 mod knowledge;
 mod numbers;
-mod ranges;
 
 pub use control::Control;
 pub use control::Pointing;
 pub use control::at;
 pub use control::no_control;
-pub use join::both;
 pub use knowledge::Knowledge;
 pub use knowledge::nothing_known;
 pub use numbers::ADRAM;
@@ -21,4 +18,3 @@ pub use numbers::IGNORING;
 pub use numbers::NORMAL;
 pub use numbers::OFF;
 pub use numbers::ON;
-pub use ranges::sound;

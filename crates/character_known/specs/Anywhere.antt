@@ -5,8 +5,8 @@ use mathlib.Core.Path.{_≡_, refl}
 use Rattle.rules.specs.Rule.{look}
 use Rattle.knowing.specs.Standing.{unknown}
 use Rattle.standing.specs.View.{stands}
-use Rattle.standing.specs.Change.{Plain}
-use Rattle.standing.specs.Together.{plain-together, together-plain}
+use Rattle.changes.specs.Change.{Plain}
+use Rattle.changes.specs.Together.{plain-together, together-plain}
 use Rattle.character.specs.Fact.{position}
 use Rattle.character.specs.Move.{byteIn}
 use Rattle.character_knowledge.specs.declared.control.Control.{Control}

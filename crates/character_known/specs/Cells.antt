@@ -8,8 +8,8 @@ use Rattle.rules.specs.Choice.{whether}
 use Rattle.knowing.specs.Standing.{Standing, known, unknown}
 use Rattle.knowing.specs.Know.{join, common, know}
 use Rattle.knowing.specs.Look.{look-unknown}
-use Rattle.standing.specs.Change.{among}
-use Rattle.standing.specs.Together.{among-or-not}
+use Rattle.changes.specs.Change.{among}
+use Rattle.changes.specs.Together.{among-or-not}
 use Rattle.character.specs.Fact.{Fact, same?, range, dcram, cgram, adram, dcramAt, cgramAt, adramAt, column, port, duty, digits, lights, position}
 use Rattle.character.specs.Laws.{every, dcram-apart, adram-apart}
 use Rattle.character.specs.Move.{shown, marked}

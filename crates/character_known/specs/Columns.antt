@@ -7,7 +7,7 @@ use Rattle.rules.specs.Rule.{look}
 use Rattle.knowing.specs.Standing.{Standing, known, unknown}
 use Rattle.knowing.specs.Know.{join, common, know}
 use Rattle.knowing.specs.Look.{look-unknown}
-use Rattle.standing.specs.Together.{among-or-not}
+use Rattle.changes.specs.Together.{among-or-not}
 use Rattle.character.specs.Fact.{Fact, same?, range, dcram, cgram, adram, dcramAt, cgramAt, adramAt, column, port, duty, digits, lights, position}
 use Rattle.character.specs.Laws.{every, cgram-apart}
 use Rattle.character.specs.Move.{drawn}

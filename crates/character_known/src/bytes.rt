@@ -1,6 +1,7 @@
 // What a byte clocked in makes of a knowledge.
 use crate::columns::to_draw;
 use crate::commanded::first_in;
+use changes::Change;
 use character_knowledge::ADRAM;
 use character_knowledge::CGRAM;
 use character_knowledge::Control;
@@ -13,7 +14,6 @@ use character_knowledge::at;
 use character_steps::Step;
 use character_steps::both_steps;
 use character_steps::kept;
-use standing::Change;
 use standing::Standing;
 use terms::Address;
 ghost use mathlib.Core.Path.{_≡_};
@@ -22,7 +22,7 @@ ghost use Rattle.knowing.specs.Standing.{unknown};
 ghost use Rattle.character.specs.Fact.{position, dcramAt, adramAt};
 ghost use Rattle.character.specs.Move.{shown, marked, byteIn};
 ghost use Rattle.standing.specs.View.{stands};
-ghost use Rattle.standing.specs.Change.{Plain};
+ghost use Rattle.changes.specs.Change.{Plain};
 ghost use Rattle.character_steps.specs.Step.{Steps};
 
 pub fn byte_in(c: Control, byte: u8) -> Step

@@ -1,9 +1,9 @@
 // What a column clocked in makes of a knowledge: it goes to CGRAM, and the other RAMs stay. Where the character or the column is unknown, it may be
 // in any of several places.
+use changes::Change;
 use character_knowledge::Control;
 use character_knowledge::Pointing;
 use character_steps::Step;
-use standing::Change;
 use standing::Standing;
 use terms::Address;
 ghost use mathlib.Core.Path.{_≡_};
@@ -12,7 +12,7 @@ ghost use Rattle.knowing.specs.Standing.{known, unknown};
 ghost use Rattle.character.specs.Fact.{cgramAt, column};
 ghost use Rattle.character.specs.Move.{drawn};
 ghost use Rattle.standing.specs.View.{stands};
-ghost use Rattle.standing.specs.Change.{Plain};
+ghost use Rattle.changes.specs.Change.{Plain};
 ghost use Rattle.character_knowledge.specs.View.{points};
 ghost use Rattle.character_steps.specs.Step.{Steps};
 

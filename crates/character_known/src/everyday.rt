@@ -14,7 +14,7 @@ ghost use mathlib.Core.Path.{_≡_};
 ghost use Prim.Native.Nat.{ℕ, _%_, _<_};
 ghost use Rattle.knowing.specs.Standing.{known};
 ghost use Rattle.standing.specs.View.{stands};
-ghost use Rattle.standing.specs.declared.change.Change.the-variants.{Keep, Put};
+ghost use Rattle.changes.specs.declared.change.Change.the-variants.{Keep, Put};
 ghost use Rattle.terms.specs.declared.Event.the-variants.{Falls, Rises, ByteIn};
 ghost use Rattle.character.specs.declared.chip.Position.the-variants.{Dcram, Cgram, Adram};
 ghost use Rattle.character.specs.Value.{at-position};

@@ -1,5 +1,6 @@
 // What each event makes of a knowledge.
 use crate::bytes::byte_in;
+use changes::apply;
 use character_knowledge::Control;
 use character_knowledge::FIRST;
 use character_knowledge::IDLE;
@@ -12,7 +13,6 @@ use character_steps::forgotten;
 use character_steps::kept;
 use character_steps::lost;
 use standing::Standing;
-use standing::apply;
 use terms::Address;
 use terms::Event;
 ghost use mathlib.Core.Path.{_≡_};

@@ -4,19 +4,13 @@ use character::Anything;
 use character::Character;
 use character::Lights;
 use character::Moved;
+use character::NONE;
 use character::Position;
 use terms::Address;
 use terms::Event;
 ghost use Rattle.rules.specs.Rule.{gives, free};
 ghost use Rattle.character.specs.View.{By};
 ghost use Rattle.character.specs.Move.{nothing, then, powered, move};
-
-// No fact is anything.
-pub const NONE: Anything = Anything {
-    memory: false,
-    settings: false,
-    position: false,
-};
 
 // The chip after an event. Keys, switches and bytes out are no events of this part, and change nothing.
 pub fn moved(chip: Character, event: Event) -> Moved

@@ -1,5 +1,5 @@
 // The replay for PT6302.
-use character_knowledge::sound;
+use character_ranges::sound;
 use character_walks::character_walk;
 use panel::Panel;
 use recording::Ending;

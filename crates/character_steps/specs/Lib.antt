@@ -1,2 +1,3 @@
 pub mod Step
 pub mod Steps
+pub mod Both

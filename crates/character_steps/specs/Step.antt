@@ -4,8 +4,8 @@ use Rattle.rules.specs.Rule.{Rule}
 use Rattle.knowing.specs.Standing.{Standing}
 use Rattle.knowing.specs.Steps as Of
 use Rattle.knowing.specs.Ways as Ways
-use Rattle.standing.specs.declared.change.Change.the-variants.{Keep, Forget}
-use Rattle.standing.specs.Change.{seen, Inside, joined, Plain}
+use Rattle.changes.specs.declared.change.Change.the-variants.{Keep, Forget}
+use Rattle.changes.specs.Change.{seen, Inside, joined, Plain}
 use Rattle.character.specs.Fact.{Fact, same?, range}
 use Rattle.character_knowledge.specs.declared.control.Control.{Control}
 use Rattle.character_knowledge.specs.View.{Memory, blank, cview}

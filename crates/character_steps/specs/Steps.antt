@@ -8,9 +8,9 @@ use Rattle.knowing.specs.Standing.{known, unknown}
 use Rattle.knowing.specs.Know.{join}
 use Rattle.knowing.specs.Steps as Of
 use Rattle.knowing.specs.Ways as Ways
-use Rattle.standing.specs.declared.change.Change.{Change}
-use Rattle.standing.specs.Change.{seen, Changes, Inside, joined, Together, Plain}
-use Rattle.standing.specs.Together.{joined-seen, joined-inside, plain-together, together-plain, plain-joined}
+use Rattle.changes.specs.declared.change.Change.{Change}
+use Rattle.changes.specs.Change.{seen, Changes, Inside, joined, Together, Plain}
+use Rattle.changes.specs.Together.{joined-seen, joined-inside, plain-together, together-plain, plain-joined}
 use Rattle.character.specs.Fact.{Fact, same?, range, dcram, cgram, adram, dcramAt, cgramAt, adramAt, column, port, duty, digits, lights, position}
 use Rattle.character.specs.Laws.{every}
 use Rattle.character_knowledge.specs.declared.control.Control.{Control}

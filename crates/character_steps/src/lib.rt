@@ -1,6 +1,8 @@
-// A step: what an event makes of a knowledge of PT6302, told in two, the facts beside the memory and what happens to the memory.
+// A step: what an event makes of a knowledge of PT6302, told in two, the facts beside the memory and what happens to the memory; and what two steps have in common.
+mod join;
 mod steps;
 
+pub use join::both;
 pub use steps::Step;
 pub use steps::both_steps;
 pub use steps::forgotten;

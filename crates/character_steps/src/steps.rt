@@ -1,9 +1,9 @@
 // What an event does, as a small value: all that is known beside the memory, and a change for each RAM.
+use crate::join::both;
+use changes::Change;
+use changes::both_changes;
 use character_knowledge::Control;
-use character_knowledge::both;
 use character_knowledge::no_control;
-use standing::Change;
-use standing::both_changes;
 ghost use mathlib.Core.Path.{_≡_};
 ghost use Rattle.rules.specs.Rule.{gives, free};
 ghost use Rattle.character_steps.specs.Step.{keptOf, forgottenOf, Both, Steps};

@@ -1,4 +1,5 @@
 // The walk for PT6302.
+use changes::put;
 use character_knowledge::Knowledge;
 use character_known::Target;
 use character_known::column_at;
@@ -12,7 +13,6 @@ use character_known::taken;
 use recording::Ending;
 use recording::Read;
 use recording::record_at;
-use standing::put;
 use terms::Event;
 use terms::Part;
 use terms::Place;

@@ -23,7 +23,7 @@ use Rattle.recording.specs.declared.read.Refusal.{Refusal}
 use Rattle.recording.specs.declared.read.Refusal.the-variants as Refusals
 use Rattle.recording.specs.Record as Record
 use Rattle.recording.specs.Record.{front}
-use Rattle.recording.specs.Again.{read-again}
+use Rattle.carrying.specs.Again.{read-again}
 use Rattle.panel.specs.declared.knowledge.Panel.{Panel}
 use Rattle.hearing.specs.declared.events.Heard.{Heard}
 use Rattle.panel.specs.View.{knownOf, good, bad}

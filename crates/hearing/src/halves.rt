@@ -22,9 +22,9 @@ pub fn in_range(part: Part, panel: Panel) -> bool
     let segment = panel.segment;
     let character = panel.character;
     match part {
-        Part::Pt6302 => character_knowledge::sound(character),
-        Part::Pt6312 => segment_knowledge::sound(Family::Pt6312, segment),
-        Part::Pt6315 => segment_knowledge::sound(Family::Pt6315, segment),
+        Part::Pt6302 => character_ranges::sound(character),
+        Part::Pt6312 => segment_ranges::sound(Family::Pt6312, segment),
+        Part::Pt6315 => segment_ranges::sound(Family::Pt6315, segment),
     }
 }
 

@@ -14,7 +14,8 @@ use Rattle.replay_answer.specs.declared.answer.Answer.{Answer}
 use Rattle.replay_answer.specs.Answer.{number, place}
 use Rattle.writing.specs.Writes.{Writes}
 use Rattle.writing.specs.Laws.{writes-front}
-use Rattle.page.specs.Page.{memory, doneAt, refusedAt, printed, page, room, Prints}
+use Rattle.listing.specs.Memory.{memory}
+use Rattle.page.specs.Page.{doneAt, refusedAt, printed, page, room, Prints}
 
 -- The page of a replay that is done, and of one that is refused.
 pub page-done : (q : PartRead) (answer : Answer) (k : Panel) {p : ℕ} → number answer ≡ 0 → p ≡ place answer → page q answer k ≡ doneAt p ++ memory q k

@@ -3,5 +3,3 @@ pub mod Walk
 pub mod Laws
 pub mod Steps
 pub mod Append
-pub mod Carried
-pub mod Again

@@ -1,13 +1,15 @@
-// The recording: one record at its front, as an event, or why it is none; and which events it can carry.
+// The recording: one record at its front, as an event, or why it is none.
 mod bodies;
-mod carried;
 mod ending;
 mod kinds;
 mod read;
 
-pub use carried::Carried;
-pub use carried::carries;
+pub use bodies::bits_allowed;
+pub use bodies::fourth_allowed;
+pub use bodies::switches_allowed;
 pub use ending::Ending;
+pub use kinds::has_keys;
+pub use kinds::has_switches;
 pub use read::Read;
 pub use read::Refusal;
 pub use read::record_at;

@@ -3,7 +3,7 @@ use panel::Panel;
 use recording::Refusal;
 use terms::Place;
 ghost use mathlib.Core.Path.{_≡_};
-ghost use Rattle.replay_answer.specs.Answer.{refusedAs};
+ghost use Rattle.replay_answer.specs.Answer.{refusedAs, number, place};
 
 // Done, with the recording's length, or why not: numbers 1 to 8, each at its place.
 pub enum Answer {
@@ -33,5 +33,24 @@ pub fn refused(refusal: Refusal, at: Place) -> Answer
         Refusal::Foreign => Answer::Foreign(at),
         Refusal::CutShort => Answer::CutShort(at),
         Refusal::Forbidden => Answer::Forbidden(at),
+    }
+}
+
+// Paper 01's number of an answer, and its place.
+pub struct Told(pub u8, pub Place);
+
+pub fn told_of(answer: Answer) -> Told
+    ensures { λ r. ⌜ (r .0 ≡ number answer) × (r .1 .0 ≡ place answer) ⌝ }
+{
+    match answer {
+        Answer::Done(at) => Told(0, at),
+        Answer::NoPart(at) => Told(1, at),
+        Answer::OutOfRange(at) => Told(2, at),
+        Answer::BeyondEnd(at) => Told(3, at),
+        Answer::TooLong(at) => Told(4, at),
+        Answer::Unlisted(at) => Told(5, at),
+        Answer::Foreign(at) => Told(6, at),
+        Answer::CutShort(at) => Told(7, at),
+        Answer::Forbidden(at) => Told(8, at),
     }
 }

@@ -3,4 +3,6 @@ mod answer;
 
 pub use answer::Answer;
 pub use answer::Replayed;
+pub use answer::Told;
 pub use answer::refused;
+pub use answer::told_of;

@@ -4,6 +4,7 @@ use example_text::character;
 use example_text::number;
 use example_text::text;
 use replay_answer::Answer;
+use replay_answer::told_of;
 use tail::Found;
 
 pub fn replayed(answer: Answer) {
@@ -13,17 +14,8 @@ pub fn replayed(answer: Answer) {
 
 // Paper 01's number and place.
 fn show(answer: Answer) {
-    match answer {
-        Answer::Done(place) => at(0, place.0),
-        Answer::NoPart(place) => at(1, place.0),
-        Answer::OutOfRange(place) => at(2, place.0),
-        Answer::BeyondEnd(place) => at(3, place.0),
-        Answer::TooLong(place) => at(4, place.0),
-        Answer::Unlisted(place) => at(5, place.0),
-        Answer::Foreign(place) => at(6, place.0),
-        Answer::CutShort(place) => at(7, place.0),
-        Answer::Forbidden(place) => at(8, place.0),
-    }
+    let told = told_of(answer);
+    at(told.0 as usize, told.1.0);
 }
 
 fn at(n: usize, place: usize) {

@@ -41,7 +41,7 @@ fn segment_sends(family: Family, panel: Panel) -> Report
     ensures { λ r. ⌜ TellsSegment family panel r ⌝ }
 {
     let k = panel.segment;
-    if segment_knowledge::sound(family, k) {
+    if segment_ranges::sound(family, k) {
         Report::Is(sent_next(family, k.control))
     } else {
         Report::OutOfRange(Place(0))

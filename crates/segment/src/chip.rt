@@ -110,6 +110,15 @@ pub struct Anything {
     pub position: bool,
 }
 
+// No fact is anything.
+pub const NONE: Anything = Anything {
+    memory: false,
+    data: false,
+    settings: false,
+    inputs: false,
+    position: false,
+};
+
 // The chip after a move, and which of its facts are anything: those stand there as they were.
 pub struct Moved {
     pub chip: Segment,

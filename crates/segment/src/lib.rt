@@ -2,12 +2,14 @@
 // as a command; the rules in specs/ say what an event does to such a chip.
 mod chip;
 mod command;
+mod stepped;
 
 pub use chip::Anything;
 pub use chip::Data;
 pub use chip::Display;
 pub use chip::Family;
 pub use chip::Moved;
+pub use chip::NONE;
 pub use chip::Pointer;
 pub use chip::Position;
 pub use chip::Segment;
@@ -16,3 +18,4 @@ pub use chip::Sizes;
 pub use chip::Stepping;
 pub use command::Command;
 pub use command::command_of;
+pub use stepped::behind;

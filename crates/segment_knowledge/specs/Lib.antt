@@ -1,4 +1,2 @@
 pub mod View
-pub mod Both
-pub mod Ranges
 pub mod Unique

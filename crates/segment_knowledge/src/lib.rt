@@ -1,9 +1,7 @@
-// What is known of a PT6312 or PT6315 panel, as a value, and what two such knowledges have in common.
+// What is known of a PT6312 or PT6315 panel, as a value.
 mod control;
-mod join;
 mod knowledge;
 mod numbers;
-mod ranges;
 
 pub use control::Control;
 pub use control::Pointing;
@@ -11,7 +9,6 @@ pub use control::at;
 pub use control::no_control;
 pub use control::stepping_by;
 pub use control::with_data;
-pub use join::both;
 pub use knowledge::Knowledge;
 pub use knowledge::nothing_known;
 pub use numbers::FIRST;
@@ -26,4 +23,3 @@ pub use numbers::READ_KEYS;
 pub use numbers::READ_SWITCHES;
 pub use numbers::WRITE_DISPLAY;
 pub use numbers::WRITE_LED;
-pub use ranges::sound;

@@ -21,9 +21,9 @@ use Rattle.segment.specs.Laws.{every, room, keys-apart}
 use Rattle.segment.specs.Move.{sets, stored, keysLatched}
 use Rattle.knowing.specs.Ways as Ways
 use Rattle.segment_knowledge.specs.declared.control.Control.{Control}
-use Rattle.standing.specs.declared.change.Change.the-variants.{Meet}
-use Rattle.standing.specs.Change.{seen}
-use Rattle.standing.specs.Together.{among-or-not}
+use Rattle.changes.specs.declared.change.Change.the-variants.{Meet}
+use Rattle.changes.specs.Change.{seen}
+use Rattle.changes.specs.Together.{among-or-not}
 use Rattle.segment_steps.specs.declared.steps.Step.{Step}
 use Rattle.segment_steps.specs.Step.{sview, Steps}
 use Rattle.standing.specs.View.{coded}

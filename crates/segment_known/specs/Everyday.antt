@@ -7,7 +7,7 @@ use Rattle.rules.specs.Rule.{look}
 use mathlib.Core.Bool.{Bool, true}
 use Rattle.knowing.specs.Standing.{Standing, known, unknown}
 use Rattle.standing.specs.View.{stands}
-use Rattle.standing.specs.declared.change.Change.the-variants.{Put, Meet}
+use Rattle.changes.specs.declared.change.Change.the-variants.{Put, Meet}
 use Rattle.terms.specs.declared.Address.{Address}
 use Rattle.terms.specs.declared.Event.the-variants.{ByteIn}
 use Rattle.segment.specs.declared.chip.Sizes.{Sizes}
@@ -30,7 +30,7 @@ use Rattle.segment_steps.specs.Step.{Steps, keptOf}
 use Rattle.segment_steps.specs.StepLaws.{as-steps, kept-steps}
 use Rattle.segment_steps.specs.StepWays.{step-known}
 use Rattle.segment_known.specs.Ways.{other-in}
-use Rattle.standing.specs.Together.{put-told}
+use Rattle.changes.specs.Together.{put-told}
 
 -- Open, write display, increment, and the address is a cell before the part's last.
 pub record Counting (s : Sizes) (c : Control) (n : ℕ) : Type 0 where

@@ -3,7 +3,7 @@ use Prim.Native.Nat.{ℕ}
 use mathlib.Core.Path.{_≡_, refl, _∙_}
 use mathlib.Core.List.{List}
 use Rattle.knowing.specs.Standing.{Standing}
-use Rattle.standing.specs.Change.{Changes}
+use Rattle.changes.specs.Change.{Changes}
 use Rattle.terms.specs.declared.Event.{Event}
 use Rattle.segment.specs.declared.chip.Family.{Family}
 use Rattle.segment.specs.Family.{sizes}

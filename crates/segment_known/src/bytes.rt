@@ -1,6 +1,9 @@
 // What a byte clocked in makes of a knowledge.
 use crate::commanded::first_in;
+use crate::commanded::known_pointing;
+use changes::Change;
 use segment::Family;
+use segment::behind;
 use segment_knowledge::Control;
 use segment_knowledge::FIRST;
 use segment_knowledge::FIXED;
@@ -19,20 +22,16 @@ use segment_knowledge::with_data;
 use segment_steps::Step;
 use segment_steps::both_steps;
 use segment_steps::kept;
-use standing::Change;
 use standing::Standing;
 use terms::Address;
 ghost use mathlib.Core.Path.{_≡_};
 ghost use Prim.Native.Nat.{_%_, _<_};
 ghost use Rattle.rules.specs.Rule.{gives, look};
 ghost use Rattle.rules.specs.Change.{keep};
-ghost use Rattle.knowing.specs.Standing.{known};
-ghost use Rattle.standing.specs.declared.change.Change.the-variants.{Put};
+ghost use Rattle.changes.specs.declared.change.Change.the-variants.{Put};
 ghost use Rattle.segment.specs.Fact.{address, dataMode, stepping, led, position};
 ghost use Rattle.segment.specs.Family.{sizes};
-ghost use Rattle.segment.specs.Value.{pointer};
-ghost use Rattle.segment.specs.Move.{sets, after, storedAt, stored, written, byteIn};
-ghost use Rattle.segment_knowledge.specs.View.{points};
+ghost use Rattle.segment.specs.Move.{sets, storedAt, stored, written, byteIn};
 ghost use Rattle.segment_steps.specs.Step.{Steps, Keeps};
 
 pub fn byte_in(family: Family, c: Control, byte: u8) -> Step
@@ -144,25 +143,12 @@ fn stored_so(family: Family, c: Control, byte: u8, cell: Address, step: u8) -> S
     let change = Change::Put(cell, byte);
     match step {
         INCREMENT => {
-            let address = behind(family, cell);
+            let address = known_pointing(behind(family, cell));
             Step {
                 control: Control { address, ..c },
                 change,
             }
         }
         _ => Step { control: c, change },
-    }
-}
-
-// The address behind a cell.
-fn behind(family: Family, cell: Address) -> Pointing
-    requires { ⌜ cell .0 < sizes family .cells ⌝ }
-    ensures { λ r. ⌜ points r ≡ known (pointer (after (sizes family) (cell .0))) ⌝ }
-{
-    let sizes = family.sizes();
-    if cell.0 + 1 < sizes.cells {
-        Pointing::At(Address(cell.0 + 1))
-    } else {
-        Pointing::Invalid
     }
 }

@@ -19,8 +19,8 @@ use segment_knowledge::READ_SWITCHES;
 use segment_knowledge::WRITE_DISPLAY;
 use segment_knowledge::WRITE_LED;
 use segment_knowledge::at;
-use segment_knowledge::both;
 use segment_steps::Step;
+use segment_steps::both;
 use segment_steps::forgotten;
 use segment_steps::kept;
 use standing::Standing;
@@ -33,7 +33,7 @@ ghost use Rattle.segment.specs.Family.{sizes};
 ghost use Rattle.segment.specs.Move.{toMode, tested, commanded};
 ghost use Rattle.segment.specs.Value.{pointer, data-mode, steps, shows};
 ghost use Rattle.segment_knowledge.specs.View.{points};
-ghost use Rattle.standing.specs.Change.{Plain};
+ghost use Rattle.changes.specs.Change.{Plain};
 ghost use Rattle.segment_steps.specs.Step.{Steps, Keeps, Forgets};
 ghost use Rattle.knowing.specs.Standing.{known};
 
@@ -109,7 +109,7 @@ fn display_number(display: Display) -> u8
     }
 }
 
-fn known_pointing(address: Pointer) -> Pointing
+pub fn known_pointing(address: Pointer) -> Pointing
     ensures { λ r. ⌜ points r ≡ known (pointer address) ⌝ }
 {
     match address {

@@ -1,6 +1,8 @@
 // The events of every day, each in a function small enough to stand in the loop over the records: the strobe, and a byte
 // whose way is known.
 use crate::commanded::first_in;
+use changes::apply;
+use changes::meet_all;
 use segment::Family;
 use segment_knowledge::Control;
 use segment_knowledge::FIRST;
@@ -11,8 +13,6 @@ use segment_knowledge::Pointing;
 use segment_knowledge::WRITE_DISPLAY;
 use segment_knowledge::at;
 use standing::Standing;
-use standing::apply;
-use standing::meet_all;
 use terms::Address;
 ghost use mathlib.Core.Path.{_≡_};
 ghost use mathlib.Core.Bool.{true};
@@ -20,8 +20,8 @@ ghost use Prim.Native.Nat.{ℕ};
 ghost use lib.ListN.{length};
 ghost use Rattle.knowing.specs.Standing.{known};
 ghost use Rattle.standing.specs.View.{stands};
-ghost use Rattle.standing.specs.Change.{Changes};
-ghost use Rattle.standing.specs.declared.change.Change.the-variants.{Put, Meet};
+ghost use Rattle.changes.specs.Change.{Changes};
+ghost use Rattle.changes.specs.declared.change.Change.the-variants.{Put, Meet};
 ghost use Rattle.terms.specs.declared.Event.the-variants.{Falls, Rises, ByteIn};
 ghost use Rattle.segment.specs.declared.chip.Sizes.{Sizes};
 ghost use Rattle.segment.specs.Family.{sizes};

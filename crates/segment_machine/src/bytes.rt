@@ -1,15 +1,16 @@
 // What a byte clocked in or out does to a chip.
-use crate::commanded::commanded;
-use crate::moves::NONE;
 use crate::moves::unchanged;
 use segment::Data;
 use segment::Family;
 use segment::Moved;
+use segment::NONE;
 use segment::Pointer;
 use segment::Position;
 use segment::Segment;
 use segment::Stepping;
+use segment::behind;
 use segment::command_of;
+use segment_commanded::commanded;
 use terms::Address;
 ghost use mathlib.Core.Path.{_≡_};
 ghost use Prim.Native.Nat.{_<_};
@@ -17,7 +18,7 @@ ghost use lib.ListN.{length, set};
 ghost use Rattle.segment.specs.Family.{sizes};
 ghost use Rattle.segment.specs.View.{By};
 ghost use Rattle.segment.specs.Value.{pointer, data-mode, steps, at-position};
-ghost use Rattle.segment.specs.Move.{after, storedAt, stored, written, byteIn, counted, readOut, byteOut};
+ghost use Rattle.segment.specs.Move.{storedAt, stored, written, byteIn, counted, readOut, byteOut};
 
 pub fn byte_in(family: Family, chip: Segment, byte: u8) -> Moved
     ensures { λ r. ⌜ By (byteIn (sizes family) byte (at-position (chip .position))) chip r ⌝ }
@@ -90,19 +91,6 @@ fn stored_at(family: Family, chip: Segment, byte: u8, cell: Address) -> Moved
             chip: Segment { cells, ..chip },
             any: NONE,
         },
-    }
-}
-
-// The address behind a cell.
-fn behind(family: Family, cell: Address) -> Pointer
-    requires { ⌜ cell .0 < sizes family .cells ⌝ }
-    ensures { λ r. ⌜ r ≡ after (sizes family) (cell .0) ⌝ }
-{
-    let sizes = family.sizes();
-    if cell.0 + 1 < sizes.cells {
-        Pointer::At(Address(cell.0 + 1))
-    } else {
-        Pointer::Invalid
     }
 }
 

@@ -1,8 +1,8 @@
 // What latched keys and switches do to a chip.
-use crate::moves::NONE;
 use crate::moves::unchanged;
 use segment::Family;
 use segment::Moved;
+use segment::NONE;
 use segment::Segment;
 ghost use mathlib.Core.Path.{_≡_};
 ghost use Prim.Native.Nat.{_<_};

@@ -8,25 +8,18 @@ use segment::Data;
 use segment::Display;
 use segment::Family;
 use segment::Moved;
+use segment::NONE;
 use segment::Pointer;
 use segment::Position;
 use segment::Segment;
 use segment::Stepping;
+use segment_commanded::at;
 use terms::Address;
 use terms::Event;
 ghost use Rattle.rules.specs.Rule.{gives, free};
 ghost use Rattle.segment.specs.Family.{sizes};
 ghost use Rattle.segment.specs.View.{By};
-ghost use Rattle.segment.specs.Move.{nothing, then, powered, move};
-
-// No fact is anything.
-pub const NONE: Anything = Anything {
-    memory: false,
-    data: false,
-    settings: false,
-    inputs: false,
-    position: false,
-};
+ghost use Rattle.segment.specs.Move.{nothing, powered, move};
 
 // The chip after an event.
 pub fn moved(family: Family, chip: Segment, event: Event) -> Moved
@@ -49,16 +42,6 @@ pub fn unchanged(chip: Segment) -> Moved
     ensures { λ r. ⌜ By nothing chip r ⌝ }
 {
     Moved { chip, any: NONE }
-}
-
-// Only the position changes.
-pub fn at(chip: Segment, position: Position) -> Moved
-    ensures { λ r. ⌜ By (gives (then position)) chip r ⌝ }
-{
-    Moved {
-        chip: Segment { position, ..chip },
-        any: NONE,
-    }
 }
 
 fn at_power(family: Family, chip: Segment) -> Moved

@@ -5,7 +5,7 @@ use replay_answer::Answer;
 use replay_answer::Replayed;
 use replay_answer::refused;
 use segment::Family;
-use segment_knowledge::sound;
+use segment_ranges::sound;
 use segment_walks::segment_walk;
 use terms::Part;
 use terms::Place;

@@ -1,3 +1,4 @@
 pub mod Step
 pub mod StepLaws
 pub mod StepWays
+pub mod Both

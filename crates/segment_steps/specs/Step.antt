@@ -5,8 +5,8 @@ use Rattle.rules.specs.Rule.{Rule}
 use Rattle.knowing.specs.Standing.{Standing, unknown}
 use Rattle.knowing.specs.Steps as Of
 use Rattle.knowing.specs.Ways as Ways
-use Rattle.standing.specs.declared.change.Change.the-variants.{Keep, Forget}
-use Rattle.standing.specs.Change.{seen, Inside, joined}
+use Rattle.changes.specs.declared.change.Change.the-variants.{Keep, Forget}
+use Rattle.changes.specs.Change.{seen, Inside, joined}
 use Rattle.segment.specs.declared.chip.Sizes.{Sizes}
 use Rattle.segment.specs.Fact.{Fact, same?, range}
 use Rattle.segment_knowledge.specs.declared.control.Control.{Control}

@@ -6,10 +6,10 @@ use Rattle.knowing.specs.Standing.{Standing}
 use Rattle.knowing.specs.Know.{join}
 use Rattle.knowing.specs.Steps as Of
 use Rattle.knowing.specs.Ways.{Joins}
-use Rattle.standing.specs.declared.change.Change.{Change}
-use Rattle.standing.specs.declared.change.Change.the-variants.{Keep, Put}
-use Rattle.standing.specs.Change.{seen, Inside, TogetherWith, Together, Plain}
-use Rattle.standing.specs.Together.{joined-seen, joined-inside, plain-together, together-plain, plain-joined}
+use Rattle.changes.specs.declared.change.Change.{Change}
+use Rattle.changes.specs.declared.change.Change.the-variants.{Keep, Put}
+use Rattle.changes.specs.Change.{seen, Inside, TogetherWith, Together, Plain}
+use Rattle.changes.specs.Together.{joined-seen, joined-inside, plain-together, together-plain, plain-joined}
 use Rattle.terms.specs.declared.Address.{Address}
 use Rattle.segment.specs.declared.chip.Sizes.{Sizes}
 use Rattle.segment.specs.Fact.{Fact, same?, range, cell, address, dataMode, stepping, mode, dimming, display, led, key, switches, readCount, position}

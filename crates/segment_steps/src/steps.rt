@@ -1,10 +1,10 @@
 // What an event makes of a knowledge: the facts beside the memory, and what happens to the memory.
+use crate::join::both;
+use changes::Change;
+use changes::both_changes;
 use segment::Family;
 use segment_knowledge::Control;
-use segment_knowledge::both;
 use segment_knowledge::no_control;
-use standing::Change;
-use standing::both_changes;
 ghost use mathlib.Core.Path.{_≡_};
 ghost use Rattle.rules.specs.Rule.{gives, free};
 ghost use Rattle.segment.specs.Family.{sizes};

@@ -1,4 +1,5 @@
 // The walk for PT6312 and PT6315.
+use changes::put;
 use recording::Ending;
 use recording::Read;
 use recording::record_at;
@@ -13,7 +14,6 @@ use segment_known::goes_to;
 use segment_known::meets;
 use segment_known::rises;
 use segment_known::taken;
-use standing::put;
 use terms::Event;
 use terms::Part;
 use terms::Place;

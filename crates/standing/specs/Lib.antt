@@ -1,4 +1,2 @@
 pub mod View
 pub mod Codes
-pub mod Change
-pub mod Together

@@ -3,7 +3,7 @@
 use native.Mathlib.Omega.{arith}
 use Prim.Native.Nat.{_%_}
 use mathlib.Core.Path.{refl}
-use Rattle.standing.specs.Together.{put-told}
+use Rattle.changes.specs.Together.{put-told}
 use Rattle.character.specs.Fact.{same?, adram}
 use Rattle.character.specs.Laws.{every, adram-apart}
 use Rattle.character_knowledge.specs.View.{cview}

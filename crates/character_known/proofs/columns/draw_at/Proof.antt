@@ -4,7 +4,7 @@ use native.Mathlib.Omega.{arith}
 use Prim.Native.Nat.{_+_, _*_, _%_}
 use mathlib.Core.Path.{refl}
 use borrow.Author.Tests.{eq-eqb, ne-eqb}
-use Rattle.standing.specs.Together.{put-told}
+use Rattle.changes.specs.Together.{put-told}
 use Rattle.character.specs.Fact.{same?, cgram}
 use Rattle.character.specs.Laws.{every, cgram-apart}
 use Rattle.character_knowledge.specs.View.{cview}

@@ -1,7 +1,7 @@
 -- `hearing::events::as_recorded` meets its contract: what `carries` answers is how the event's record is read, and the contract goes by that.
 -- Assumes nothing.
 use mathlib.Core.Path.{refl, sym, ap, _∙_}
-use Rattle.recording.specs.Carried.{readAs}
+use Rattle.carrying.specs.Carried.{readAs}
 use Rattle.hearing.specs.Laws.{record-as}
 use borrow.Author.Needs.{needs}
 use Rattle.hearing.proofs.events.as_recorded.Statement.{statement}

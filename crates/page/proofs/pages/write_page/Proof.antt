@@ -3,7 +3,8 @@
 use native.Mathlib.Omega.{arith}
 use lib.ListN.{length-append}
 use Rattle.terms.specs.Part.{partOf}
-use Rattle.page.specs.Page.{doneAt, memory}
+use Rattle.listing.specs.Memory.{memory}
+use Rattle.page.specs.Page.{doneAt}
 use Rattle.writing.specs.Laws.{writes-then}
 use Rattle.page.specs.Lengths.{done-length, refused-length}
 use Rattle.page.specs.Laws.{page-done, page-refused, prints, prints-nothing}

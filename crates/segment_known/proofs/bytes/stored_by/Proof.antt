@@ -3,7 +3,7 @@
 use mathlib.Core.Path.{refl, sym, ap, subst⁻¹}
 use borrow.Author.Tests.{lt-ltb, le-ltb}
 use Rattle.rules.specs.Rule.{look}
-use Rattle.standing.specs.declared.change.Change.the-variants.{Meet}
+use Rattle.changes.specs.declared.change.Change.the-variants.{Meet}
 use Rattle.segment.specs.declared.chip.Sizes.{Sizes}
 use Rattle.segment.specs.Fact.{address}
 use Rattle.segment.specs.Family.{sizes}

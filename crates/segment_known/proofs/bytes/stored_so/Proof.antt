@@ -1,13 +1,15 @@
 -- `segment_known::bytes::stored_so` meets its contract: the cell is put, and each arm knows whether the address steps on.
 -- Assumes nothing.
 use native.Mathlib.Omega.{arith}
-use mathlib.Core.Path.{refl}
+use mathlib.Core.Path.{refl, ap, _∙_}
+use Rattle.knowing.specs.Standing.{known}
+use Rattle.segment.specs.Value.{pointer}
 use Rattle.segment.specs.Laws.{every, room, cells-apart}
 use Rattle.segment.specs.Fact.{same?, cell}
 use Rattle.segment_knowledge.specs.View.{cview}
 use Rattle.segment_steps.specs.StepLaws.{as-steps}
 use Rattle.segment_known.specs.Ways.{other-step}
-use Rattle.standing.specs.Together.{put-told}
+use Rattle.changes.specs.Together.{put-told}
 use Prim.Native.Nat.{_<_}
 use borrow.Author.Needs.{needs}
 use Rattle.segment_known.proofs.bytes.stored_so.Statement.{statement}
@@ -16,11 +18,14 @@ use Rattle.segment_known.proofs.bytes.stored_so.Tie as tie
 behind-requires : tie.Need-behind-requires
 behind-requires c κs = search needs
 
+known-pointing-requires : tie.Need-known-pointing-requires
+known-pointing-requires c κs = search needs
+
 returns : tie.Need-returns
-returns c = let a = c .before .before .before .args in
-    let i : a .cell .0 < 36 = omega (arith, c .before .before .before .pre, room (a .family) .0) in (
+returns c = let a = c .before .before .before .before .args in
+    let i : a .cell .0 < 36 = omega (arith, c .before .before .before .before .pre, room (a .family) .0) in (
       record {
-        knows = λ cells. rw (c .before .before .match .keys1) (every _ (λ j. put-told same? cell cells-apart (cview cells (a .c)) (a .cell .0) (a .byte) j) (c .before .behind .ensures) refl refl refl refl refl refl (λ j. refl) refl refl refl);
+        knows = λ cells. rw (c .before .before .before .match .keys1) (every _ (λ j. put-told same? cell cells-apart (cview cells (a .c)) (a .cell .0) (a .byte) j) (c .before .known-pointing .ensures ∙ ap (λ p. known (pointer p)) (c .before .before .behind .ensures)) refl refl refl refl refl refl (λ j. refl) refl refl refl);
         inside = i;
       },
       refl,
@@ -37,4 +42,4 @@ returns-2 c = let a = c .before .args in
     )
 
 pub stored-so-spec : {M : Type 1} → statement M
-stored-so-spec = tie.close (tie.spec behind-requires returns returns-2)
+stored-so-spec = tie.close (tie.spec behind-requires known-pointing-requires returns returns-2)

@@ -9,7 +9,7 @@ use Rattle.segment.specs.Laws.{every}
 use Rattle.segment.specs.Move.{commanded}
 use Rattle.segment_knowledge.specs.View.{cview}
 use Rattle.segment_steps.specs.declared.steps.Step.{Step}
-use Rattle.standing.specs.Change.{Plain}
+use Rattle.changes.specs.Change.{Plain}
 use Rattle.segment_steps.specs.StepLaws.{kept-steps, forgotten-steps}
 use Rattle.segment_known.specs.Ways.{mode-small}
 use borrow.Author.Needs.{needs}

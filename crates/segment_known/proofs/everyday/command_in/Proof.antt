@@ -2,7 +2,7 @@
 -- Assumes nothing.
 use Prim.Native.Nat.{ℕ}
 use mathlib.Core.Path.{subst⁻¹}
-use Rattle.standing.specs.Change.{Inside}
+use Rattle.changes.specs.Change.{Inside}
 use Rattle.terms.specs.declared.Event.the-variants.{ByteIn}
 use Rattle.segment.specs.Fact.{position}
 use Rattle.segment.specs.Family.{sizes}

@@ -2,7 +2,7 @@
 -- Assumes nothing.
 use Prim.Native.Nat.{ℕ}
 use mathlib.Core.Path.{subst⁻¹}
-use Rattle.standing.specs.Change.{Inside}
+use Rattle.changes.specs.Change.{Inside}
 use Rattle.segment_known.specs.Moved.{step-done}
 use borrow.Author.Needs.{needs}
 use Rattle.segment_known.proofs.moves.taken.Statement.{statement}

@@ -1,0 +1,72 @@
+-- `changes::rows::meet_run` meets its contract: the codes passed are met, and the others are as they were, at every step of the loop.
+-- Assumes nothing.
+use Prim.Native.Nat.{_≤_, _-_, _+_, _*_}
+use mathlib.Core.Path.{_≡_, sym}
+use native.Mathlib.Omega.{arith}
+use borrow.Author.Needs.{scaled-fits}
+use Rattle.standing.specs.Codes.{Met, met-none, met-run}
+use Rattle.changes.proofs.rows.meet_run.Statement.{statement}
+use Rattle.changes.proofs.rows.meet_run.Tie as tie
+
+abbrev Inv-loop : tie.InvT-loop
+Inv-loop codes₀ from count byte i₀ codes i = (i ≤ count) × Met codes₀ from 1 byte i codes
+
+abbrev μ-loop : tie.MeasureT-loop
+μ-loop codes₀ from count byte i₀ codes i = count - i
+
+loop-holds : tie.Need-loop-holds Inv-loop μ-loop
+loop-holds c = (omega arith, met-none _ _ _ _)
+
+add-at : tie.Need-add-at Inv-loop μ-loop
+add-at c = record { fits = omega (arith, c .before .before .before .pre (c .before .loop .i) (c .loop-test .taken), c .before .before .before .good .0 .0) }
+
+mul-both-codes : tie.Need-mul-both-codes Inv-loop μ-loop
+mul-both-codes c = scaled-fits _ _ 2 (omega (arith, c .before .before .before .pre (c .before .loop .i) (c .loop-test .taken))) (c .before .before .before .good .0 .1)
+
+slice-read-both-codes : tie.Need-slice-read-both-codes Inv-loop μ-loop
+slice-read-both-codes c = omega (arith, c .before .before .before .before .pre (c .before .before .loop .i) (c .before .loop-test .taken), c .before .before .loop .inv .1 .size)
+
+both-codes-requires : tie.Need-both-codes-requires Inv-loop μ-loop
+both-codes-requires c κs = tt
+
+mul-codes : tie.Need-mul-codes Inv-loop μ-loop
+mul-codes c = scaled-fits _ _ 2 (omega (arith, c .before .before .before .before .before .pre (c .before .before .before .loop .i) (c .before .before .loop-test .taken))) (c .before .before .before .before .before .good .0 .1)
+
+slice-write-codes : tie.Need-slice-write-codes Inv-loop μ-loop
+slice-write-codes c = omega (arith, c .before .before .before .before .before .pre (c .before .before .before .loop .i) (c .before .before .loop-test .taken), c .before .before .before .loop .inv .1 .size)
+
+add-i : tie.Need-add-i Inv-loop μ-loop
+add-i c = omega arith
+
+loop-less : tie.Need-loop-less Inv-loop μ-loop
+loop-less c = omega arith
+
+loop-again : tie.Need-loop-again Inv-loop μ-loop
+loop-again c = let l = c .before .before .before .loop in
+    (omega arith, met-run (c .before .before .before .before .before .args .codes .now) (l .codes) (c .before .before .before .before .before .args .from) (c .before .before .before .before .before .args .byte) (l .i) _ (l .inv .1) (slice-write-codes c) (c .both-codes .ensures))
+
+same-length : tie.Need-same-length Inv-loop μ-loop
+same-length c = c .before .loop .inv .1 .size
+
+returns : tie.Need-returns Inv-loop μ-loop
+returns c = let e : c .before .loop .i ≡ c .before .before .before .args .count = omega arith in
+    rw (sym e) (c .before .loop .inv .1)
+
+pub meet-run-spec : {M : Type 1} → statement M
+meet-run-spec =
+    tie.close
+    (tie.spec
+    Inv-loop
+    μ-loop
+    loop-holds
+    add-at
+    mul-both-codes
+    slice-read-both-codes
+    both-codes-requires
+    mul-codes
+    slice-write-codes
+    add-i
+    loop-less
+    loop-again
+    same-length
+    returns)

@@ -1,0 +1,75 @@
+-- What a change does to a row of codes, and what two changes have in common.
+use Prim.Native.Nat.{ℕ, zero, suc, _+_, _*_, _<_}
+use mathlib.Core.Path.{_≡_}
+use mathlib.Core.Bool.{Bool, false, _||_}
+use mathlib.Core.List.{List}
+use lib.ListN.{getD}
+use lib.Dec.{eqb}
+use Rattle.rules.specs.Choice.{whether}
+use Rattle.knowing.specs.Standing.{Standing, known, unknown}
+use Rattle.knowing.specs.Know.{join}
+use Rattle.standing.specs.View.{coded}
+use Rattle.changes.specs.declared.change.Change.{Change}
+use Rattle.changes.specs.declared.change.Change.the-variants.{Keep, Put, Meet, Forget}
+
+-- i is one of n numbers, from `from` on, one in `by`.
+abbrev pub among : ℕ → ℕ → ℕ → ℕ → Bool
+among from by zero i = false
+among from by (suc n) i = eqb i (from + by * n) || among from by n i
+
+-- What is known of code i after a change, by what was known before.
+abbrev pub seen : Change → ℕ → Standing → Standing
+seen Keep i s = s
+seen (Put a b) i s = whether (eqb i (a .0)) (known b) s
+seen (Meet a by n b) i s = whether (among (a .0) by n i) (join s (known b)) s
+seen Forget i s = unknown
+
+-- The codes r are those of l after a change.
+abbrev pub Changes : Change → List ℕ → List ℕ → Type 0
+Changes x l r = (i : ℕ) → coded (getD r i 256) ≡ seen x i (coded (getD l i 256))
+
+-- The change stays within a row of that many codes.
+abbrev pub Inside : ℕ → Change → Type 0
+Inside room Keep = Unit
+Inside room (Put a b) = a .0 < room
+Inside room (Meet a by n b) = (0 < by) × ((j : ℕ) → j < n → a .0 + by * j < room)
+Inside room Forget = Unit
+
+-- A change that may have happened or not.
+abbrev pub loose : Change → Change
+loose Keep = Keep
+loose (Put a b) = Meet a 1 1 b
+loose (Meet a by n b) = Meet a by n b
+loose Forget = Forget
+
+-- What two changes have in common, where they can be told together: one of them keeps every code or forgets all, or both are the same.
+abbrev pub joinedWith : Change → Change → Change
+joinedWith x Keep = loose x
+joinedWith x (Put a b) = x
+joinedWith x (Meet a by n b) = x
+joinedWith x Forget = Forget
+
+abbrev pub joined : Change → Change → Change
+joined Keep y = loose y
+joined (Put a b) y = joinedWith (Put a b) y
+joined (Meet a by n b) y = joinedWith (Meet a by n b) y
+joined Forget y = Forget
+
+abbrev pub TogetherWith : Change → Change → Type 0
+TogetherWith x Keep = Unit
+TogetherWith x (Put a b) = x ≡ Put a b
+TogetherWith x (Meet a by n b) = x ≡ Meet a by n b
+TogetherWith x Forget = Unit
+
+abbrev pub Together : Change → Change → Type 0
+Together Keep y = Unit
+Together (Put a b) y = TogetherWith (Put a b) y
+Together (Meet a by n b) y = TogetherWith (Meet a by n b) y
+Together Forget y = Unit
+
+-- Every code stays, or all are forgotten.
+abbrev pub Plain : Change → Type 0
+Plain Keep = Unit
+Plain (Put a b) = ⊥
+Plain (Meet a by n b) = ⊥
+Plain Forget = Unit

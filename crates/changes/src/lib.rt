@@ -1,0 +1,9 @@
+// What an event does to a row of codes: a small value, and the change that it makes where the row stands.
+mod change;
+mod rows;
+
+pub use change::Change;
+pub use change::both_changes;
+pub use rows::apply;
+pub use rows::meet_all;
+pub use rows::put;

@@ -1,0 +1,25 @@
+-- The facts of a PT6302 panel in the checksum, in paper 01's order.
+use Prim.Native.Nat.{ℕ}
+use Rattle.character_knowledge.specs.declared.control.Pointing.{Pointing}
+use Rattle.character_knowledge.specs.declared.control.Pointing.the-variants.{At, Unknown}
+use Rattle.character_knowledge.specs.declared.control.Control.{Control}
+use Rattle.character_knowledge.specs.declared.knowledge.Knowledge.{Knowledge}
+use Rattle.checksum.specs.Sum.{taken, allTaken, factCode}
+
+abbrev pub addressCode : Pointing → ℕ
+addressCode (At cell) = cell .0
+addressCode Unknown = 256
+
+abbrev pub memorySum : ℕ → Knowledge → ℕ
+memorySum sum k = allTaken (allTaken (allTaken sum (k .dcram)) (k .cgram)) (k .adram)
+
+abbrev pub addressSum : ℕ → Control → ℕ
+addressSum sum c = taken (taken (taken sum (addressCode (c .«dcram_at»))) (addressCode (c .«cgram_at»))) (addressCode (c .«adram_at»))
+
+abbrev pub factSum : ℕ → Control → ℕ
+factSum sum c =
+    taken (taken (taken (taken (taken (taken sum (factCode (c .column))) (factCode (c .port))) (factCode (c .duty))) (factCode (c .digits))) (factCode (c .lights)))
+    (factCode (c .position))
+
+abbrev pub characterSum : ℕ → Knowledge → ℕ
+characterSum sum k = factSum (addressSum (memorySum sum k) (k .control)) (k .control)

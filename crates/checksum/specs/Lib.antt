@@ -1,0 +1,4 @@
+pub mod Sum
+pub mod Characters
+pub mod Segments
+pub mod Panels

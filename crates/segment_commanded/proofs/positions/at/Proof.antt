@@ -1,0 +1,11 @@
+use mathlib.Core.Path.{refl}
+use Rattle.segment.specs.Laws.{every}
+use Rattle.segment_commanded.proofs.positions.at.Statement.{statement}
+use Rattle.segment_commanded.proofs.positions.at.Tie as tie
+
+-- src/moves.rt:38:1
+returns : tie.Need-returns
+returns c = every _ (λ i. refl) refl refl refl refl refl refl refl (λ i. refl) refl refl refl
+
+pub at-spec : {M : Type 1} → statement M
+at-spec = tie.close (tie.spec returns)

@@ -1,0 +1,60 @@
+-- Number 2, taken apart: the single facts in range, and that with the rows it is every fact.
+use Prim.Native.Nat.{ℕ, _<_}
+use native.Mathlib.Omega.{arith}
+use native.Mathlib.Decide.{decLt}
+use mathlib.Core.List.{List}
+use lib.ListN.{getD}
+use lib.Dec.{ltb}
+use borrow.Author.Tests.{lt-ltb, le-ltb}
+use Rattle.rules.specs.Choice.{whether}
+use Rattle.knowing.specs.Standing.{Standing, known, unknown, Within, Sound}
+use Rattle.standing.specs.View.{coded}
+use Rattle.standing.specs.Codes.{RowSound, Small, small-within}
+use Rattle.segment.specs.declared.chip.Sizes.{Sizes}
+use Rattle.segment.specs.Fact.{Fact, lacking, range, cell, address, dataMode, stepping, mode, dimming, display, led, key, switches, readCount, position}
+use Rattle.segment.specs.Laws.{every}
+use Rattle.segment_knowledge.specs.declared.knowledge.Knowledge.{Knowledge}
+use Rattle.segment_knowledge.specs.View.{kview}
+
+abbrev In : Sizes → (Fact → Standing) → Fact → Type 0
+In s k f = Within (range s f) (k f)
+
+-- The single facts whose ranges both parts share.
+abbrev pub OthersSound : (Fact → Standing) → Type 0
+OthersSound k = ((Within 8 (k dimming) × Within 2 (k display)) × Within 16 (k led)) × (Within 5 (k readCount) × Within 4 (k position))
+
+abbrev pub SinglesSound : Sizes → (Fact → Standing) → Type 0
+SinglesSound s k = (((In s k address × In s k stepping) × (In s k dataMode × In s k mode)) × In s k switches) × OthersSound k
+
+-- A row's facts are in range where the first of them are: the others are no facts of the part.
+row-in : (l : List ℕ) (n i : ℕ) → Small l → RowSound l n 256 → Within (whether (ltb i n) 256 lacking) (coded (getD l i 256))
+row-in l n i small h = go (decLt i n)
+  where
+    go : Dec (i < n) → Within (whether (ltb i n) 256 lacking) (coded (getD l i 256))
+    go (yes p) = rw (lt-ltb i n p) (h i p)
+    go (no p) = rw (le-ltb i n (omega arith)) (small-within (getD l i 256) lacking (small i))
+
+in-row : (l : List ℕ) (n : ℕ) → ((i : ℕ) → Within (whether (ltb i n) 256 lacking) (coded (getD l i 256))) → RowSound l n 256
+in-row l n h i p = simp (lt-ltb i n p) at (h i)
+
+module _ (s : Sizes) (k : Knowledge) where
+  abbrev pub Parts : Type 0
+  Parts = (RowSound (k .cells) (s .cells) 256 × RowSound (k .control .keys) (s .keys) 256) × SinglesSound s (kview k)
+
+  pub sound-whole : Small (k .cells) → Small (k .control .keys) → Parts → Sound (range s) (kview k)
+  sound-whole small tiny p =
+      let a = p .1 .0 in
+      let o = p .1 .1 in
+      every (λ (f : Fact). In s (kview k) f) (λ i. row-in (k .cells) (s .cells) i small (p .0 .0)) (a .0 .0 .0) (a .0 .1 .0) (a .0 .0 .1) (a .0 .1 .1) (o .0 .0 .0) (o .0 .0 .1) (o .0 .1)
+      (λ i. row-in (k .control .keys) (s .keys) i tiny (p .0 .1)) (a .1) (o .1 .0) (o .1 .1)
+
+  pub sound-parts : Sound (range s) (kview k) → Parts
+  sound-parts h = (
+    (in-row (k .cells) (s .cells) (λ i. h (cell i)), in-row (k .control .keys) (s .keys) (λ i. h (key i))),
+    ((((h address, h stepping), (h dataMode, h mode)), h switches), (((h dimming, h display), h led), (h readCount, h position))),
+  )
+
+-- A byte is within what a part lacks.
+pub byte-lacking : (t : Standing) → Within 256 t → Within lacking t
+byte-lacking (known v) h = omega arith
+byte-lacking unknown h = tt
