@@ -1,6 +1,4 @@
 // A line's words, character by character. A word is a byte in hex, or a name that may have numbers in hex: as cell07=09, cell07? or @0007.
-use standing::Standing;
-
 pub struct Word {
     // The first character that is part of no number; 0 where nothing was read, and the digit 0 where only digits were.
     pub name: u8,
@@ -71,18 +69,6 @@ impl Word {
     // The byte that it is, where it is one.
     pub fn byte(self) -> u8 {
         (self.number % 256) as u8
-    }
-
-    // A single fact after the word, which changes it where it has its name.
-    pub fn tells(self, name: u8, before: Standing) -> Standing {
-        if self.name != name {
-            return before;
-        }
-        if self.number < 256 {
-            Standing::Known(self.byte())
-        } else {
-            Standing::Unknown
-        }
     }
 
     // The code that it sets.

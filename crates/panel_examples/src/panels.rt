@@ -1,12 +1,12 @@
 // What is known of the panel, and the answer to the last event.
 use crate::answers;
+use example_panels::known_characters;
+use example_panels::known_segments;
+use example_panels::show_known;
+use example_panels::told_characters;
+use example_panels::told_segments;
 use example_text::Line;
 use example_text::Word;
-use example_text::known_characters;
-use example_text::known_segments;
-use example_text::show_known;
-use example_text::told_characters;
-use example_text::told_segments;
 use hearing::Answer;
 use hearing::Heard;
 use panel::Panel;

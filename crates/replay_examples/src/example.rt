@@ -2,8 +2,8 @@
 use crate::answers;
 use crate::memory::put;
 use crate::starts;
+use example_panels::show_known;
 use example_text::Word;
-use example_text::show_known;
 use panel::Panel;
 use replay_answer::Replayed;
 use terms::Place;

@@ -1,9 +1,9 @@
 // What a replay starts from.
+use example_panels::known_characters;
+use example_panels::known_segments;
+use example_panels::told_characters;
+use example_panels::told_segments;
 use example_text::Word;
-use example_text::known_characters;
-use example_text::known_segments;
-use example_text::told_characters;
-use example_text::told_segments;
 use panel::Panel;
 
 // Knowing nothing or everything, and then with a value out of range in a half.

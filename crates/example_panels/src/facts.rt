@@ -3,8 +3,11 @@
 //
 // A row of facts has its words in one text, with a ; between facts: what leads up to the fact, a |, its title, and a / before the name of each of its
 // numbers from 0 on. A number that has no name is written in decimal.
-use crate::parts::part;
-use crate::print;
+use example_text::comma;
+use example_text::decimal;
+use example_text::hex;
+use example_text::part;
+use example_text::text;
 use standing::Standing;
 
 // The code of a single fact.
@@ -28,18 +31,18 @@ pub fn show_facts(words: &[u8], codes: [u16; 10], from: usize, to: usize, all: b
 
 fn fact(words: &[u8], code: u16, all: bool) {
     if all {
-        print::text(part(words, b'|', 0));
+        text(part(words, b'|', 0));
     } else {
         if code == 256 {
             return;
         }
-        print::comma();
+        comma();
     }
     titled(part(words, b'|', 1), code);
 }
 
 fn titled(words: &[u8], code: u16) {
-    print::text(part(words, b'/', 0));
+    text(part(words, b'/', 0));
     if code < 256 {
         named(part(words, b'/', code as usize + 1), code);
     } else {
@@ -49,16 +52,16 @@ fn titled(words: &[u8], code: u16) {
 
 fn named(name: &[u8], n: u16) {
     if name.len() == 0 {
-        print::decimal(n as usize);
+        decimal(n as usize);
     } else {
-        print::text(name);
+        text(name);
     }
 }
 
 fn unnamed(code: u16) {
     match code {
-        256 => print::text(b"unknown"),
-        257 => print::text(b"invalid"),
-        _ => print::hex((code % 256) as u8),
+        256 => text(b"unknown"),
+        257 => text(b"invalid"),
+        _ => hex((code % 256) as u8),
     }
 }

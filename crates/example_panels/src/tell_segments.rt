@@ -1,5 +1,6 @@
 // What a word says of PT6312 or PT6315.
-use crate::word::Word;
+use crate::tells::tells;
+use example_text::Word;
 use segment_knowledge::Control;
 use segment_knowledge::Knowledge;
 use segment_knowledge::Pointing;
@@ -45,16 +46,16 @@ fn control_told(c: Control, word: Word) -> Control {
     let new_keys = keys_told(keys, word.name, word.at, word.code());
     Control {
         address: address_told(word, address),
-        data: word.tells(b'd', data),
-        stepping: word.tells(b'f', stepping),
-        mode: word.tells(b'm', mode),
-        dimming: word.tells(b'b', dimming),
-        display: word.tells(b'o', display),
-        led: word.tells(b'l', led),
+        data: tells(word, b'd', data),
+        stepping: tells(word, b'f', stepping),
+        mode: tells(word, b'm', mode),
+        dimming: tells(word, b'b', dimming),
+        display: tells(word, b'o', display),
+        led: tells(word, b'l', led),
         keys: new_keys,
-        switches: word.tells(b's', switches),
-        count: word.tells(b'r', count),
-        position: word.tells(b'p', position),
+        switches: tells(word, b's', switches),
+        count: tells(word, b'r', count),
+        position: tells(word, b'p', position),
     }
 }
 

@@ -1,9 +1,10 @@
 // What a word says of PT6302.
-use crate::word::Word;
+use crate::tells::tells;
 use character_knowledge::Control;
 use character_knowledge::Knowledge;
 use character_knowledge::Pointing;
 use character_knowledge::nothing_known;
+use example_text::Word;
 use terms::Address;
 
 // What is known after a word, of which the first letter counts.
@@ -39,12 +40,12 @@ fn control_told(c: Control, word: Word) -> Control {
         dcram_at: address_told(word, b'd', dcram_at),
         cgram_at: address_told(word, b'g', cgram_at),
         adram_at: address_told(word, b'a', adram_at),
-        column: word.tells(b'c', column),
-        port: word.tells(b'o', port),
-        duty: word.tells(b'b', duty),
-        digits: word.tells(b'w', digits),
-        lights: word.tells(b'l', lights),
-        position: word.tells(b'p', position),
+        column: tells(word, b'c', column),
+        port: tells(word, b'o', port),
+        duty: tells(word, b'b', duty),
+        digits: tells(word, b'w', digits),
+        lights: tells(word, b'l', lights),
+        position: tells(word, b'p', position),
     }
 }
 

@@ -2,12 +2,12 @@
 -- Assumes nothing.
 use Prim.Native.Nat.{_≤_, _-_}
 use borrow.Author.Needs.{needs}
-use Rattle.example_text.proofs.codes.each.Statement.{statement}
-use Rattle.example_text.proofs.codes.each.Tie as tie
-use Rattle.example_text.proofs.codes.code_at.Reads as code-at-reads
-use Rattle.example_text.proofs.codes.show.Reads as show-reads
-use Rattle.example_text.proofs.print.character.Reads as character-reads
-use Rattle.example_text.proofs.print.text.Reads as text-reads
+use Rattle.example_panels.proofs.codes.each.Statement.{statement}
+use Rattle.example_panels.proofs.codes.each.Tie as tie
+use Rattle.example_panels.proofs.codes.code_at.Reads as code-at-reads
+use Rattle.example_panels.proofs.codes.show.Reads as show-reads
+use Rattle.example_text.proofs.character.Reads as character-reads
+use Rattle.example_text.proofs.text.Reads as text-reads
 
 abbrev Inv-loop : tie.InvT-loop
 Inv-loop name codes count i₀ i = i ≤ count

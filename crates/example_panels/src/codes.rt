@@ -1,9 +1,12 @@
 // Rows of codes. A code below 256 is a known byte, 256 is unknown, and 257 is what no knowledge may hold.
-use crate::print;
+use example_text::character;
+use example_text::hex;
+use example_text::spaced;
+use example_text::text;
 
 // Writes the name of a row and its first codes, in which neighbours that are the same stand together so that lines stay short.
 pub fn runs(name: &[u8], codes: &[u16], count: usize) {
-    print::text(name);
+    text(name);
     let mut from = 0;
     let mut i = 0;
     while i < count {
@@ -24,21 +27,21 @@ fn code_at(codes: &[u16], i: usize) -> u16 {
 
 // Writes the place of the first code that is the same, that of the last one where it is another, and the code.
 fn run(from: usize, to: usize, code: u16) {
-    print::spaced((from % 256) as u8);
+    spaced((from % 256) as u8);
     if from < to {
-        print::character(b'-');
-        print::hex((to % 256) as u8);
+        character(b'-');
+        hex((to % 256) as u8);
     }
-    print::character(b'=');
+    character(b'=');
     show(code);
 }
 
 // Writes the name of a row and each of its first codes, with a space before it.
 pub fn each(name: &[u8], codes: &[u16], count: usize) {
-    print::text(name);
+    text(name);
     let mut i = 0;
     while i < count {
-        print::character(b' ');
+        character(b' ');
         show(code_at(codes, i));
         i += 1;
     }
@@ -46,10 +49,10 @@ pub fn each(name: &[u8], codes: &[u16], count: usize) {
 
 fn show(code: u16) {
     if code < 256 {
-        print::hex((code % 256) as u8);
+        hex((code % 256) as u8);
         return;
     }
     let sign = if code == 256 { b'?' } else { b'!' };
-    print::character(sign);
-    print::character(sign);
+    character(sign);
+    character(sign);
 }

@@ -2,10 +2,10 @@
 use crate::codes;
 use crate::facts::code;
 use crate::facts::show_facts;
-use crate::print;
 use character_knowledge::Control;
 use character_knowledge::Knowledge;
 use character_knowledge::Pointing;
+use example_text::character;
 
 // Writes everything, and what is unknown, on three lines, or all but unknown single facts on one. It begins with a line end and has none behind it.
 pub fn show_characters(k: Knowledge, all: bool) {
@@ -65,10 +65,10 @@ fn control(codes: [u16; 10], all: bool) {
 fn memory(k: Knowledge, mark: u8) {
     let dcram = k.dcram;
     sixteen(b"\n    DCRAM", dcram);
-    print::character(mark);
+    character(mark);
     let cgram = k.cgram;
     forty(cgram);
-    print::character(mark);
+    character(mark);
     let adram = k.adram;
     sixteen(b" ADRAM", adram);
 }

@@ -2,11 +2,11 @@
 -- Assumes nothing.
 use Prim.Native.Nat.{_≤_, _-_}
 use borrow.Author.Needs.{needs}
-use Rattle.example_text.proofs.codes.runs.Statement.{statement}
-use Rattle.example_text.proofs.codes.runs.Tie as tie
-use Rattle.example_text.proofs.codes.code_at.Reads as code-at-reads
-use Rattle.example_text.proofs.codes.run.Reads as run-reads
-use Rattle.example_text.proofs.print.text.Reads as text-reads
+use Rattle.example_panels.proofs.codes.runs.Statement.{statement}
+use Rattle.example_panels.proofs.codes.runs.Tie as tie
+use Rattle.example_panels.proofs.codes.code_at.Reads as code-at-reads
+use Rattle.example_panels.proofs.codes.run.Reads as run-reads
+use Rattle.example_text.proofs.text.Reads as text-reads
 
 abbrev Inv-loop : tie.InvT-loop
 Inv-loop name codes count from₀ i₀ from i = i ≤ count
