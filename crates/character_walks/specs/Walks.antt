@@ -9,8 +9,8 @@ use Rattle.character.specs.Move.{move}
 use Rattle.character_knowledge.specs.declared.knowledge.Knowledge.{Knowledge}
 use Rattle.character_knowledge.specs.View.{kview}
 use Rattle.character_walks.specs.declared.CharacterWalked.{CharacterWalked}
-use Rattle.walks.specs.Left.{Left, InTurn}
+use Rattle.walks.specs.Left.{InTurn}
 
 pub record Walks (part : Part) (k : Knowledge) (l : List ℕ) (r : CharacterWalked) : Type 0 where
   pub ended : r .ending ≡ endOf (walked part l)
-  pub left : Left (r .ending) (InTurn kview same? range move (events (walked part l)) k (r .k)) (r .k ≡ k)
+  pub known : InTurn kview same? range move (events (walked part l)) k (r .k)

@@ -18,7 +18,7 @@ use terms::Part;
 use terms::Place;
 ghost use Rattle.character_walks.specs.Walks.{Walks};
 
-// How the walk ended, and the knowledge: after all events where it is done, else as it was.
+// How the walk ended, and the knowledge after all events before that.
 pub struct CharacterWalked {
     pub ending: Ending,
     pub k: Knowledge,
@@ -71,7 +71,12 @@ pub fn character_walk(part: Part, k: Knowledge, bytes: &[u8]) -> CharacterWalked
             Read::Refused(refusal) => {
                 return CharacterWalked {
                     ending: Ending::Stops(refusal, Place(i)),
-                    k,
+                    k: Knowledge {
+                        dcram,
+                        cgram,
+                        adram,
+                        control,
+                    },
                 };
             }
         }

@@ -21,8 +21,8 @@ use Rattle.panel.specs.declared.knowledge.Panel.{Panel}
 use Rattle.panel.specs.View.{knownOf}
 use Rattle.replay_answer.specs.declared.answer.Replayed.{Replayed}
 use Rattle.replay_answer.specs.Answer.{number, place, RefusedBy}
-use Rattle.replay_answer.specs.Replay.{ByEnding, Replays, ends-by}
-use Rattle.replay.specs.ByPart.{PartDone, Acceptable, replays-by, accepted, passed, record-refused}
+use Rattle.replay_answer.specs.Replay.{ByEnding, PartDone, Replays, ends-by}
+use Rattle.replay.specs.ByPart.{Acceptable, replays-by, accepted, passed, record-refused}
 
 module _ (b : ℕ) (p : Part) (named : partOf b ≡ Is p) (k : Panel) (l m : List ℕ) (r q s : Replayed)
     (room : length (l ++ m) ≤ 65535) (first : Replays (partOf b) k l 0 r) (zero : number (r .answer) ≡ 0)

@@ -20,8 +20,8 @@ use Rattle.panel.specs.declared.knowledge.Panel.{Panel}
 use Rattle.panel.specs.View.{knownOf}
 use Rattle.replay_answer.specs.declared.answer.Replayed.{Replayed}
 use Rattle.replay_answer.specs.Answer.{number, place}
-use Rattle.replay_answer.specs.Replay.{Replays}
-use Rattle.replay.specs.ByPart.{PartDone, Acceptable, replays-by, accepted, accepts}
+use Rattle.replay_answer.specs.Replay.{PartDone, Replays}
+use Rattle.replay.specs.ByPart.{Acceptable, replays-by, accepted, accepts}
 use Rattle.whole.specs.Turns.{Chain, KnowsAtLeast}
 use Rattle.whole.specs.Sentence.{position, StartKnows, hasGap, DefinedOn, NoUndefined, startsFirst, IsMemory, AllEnd}
 use Rattle.whole.specs.Whole.{turn-chain, chain-one, ends-fit, turn-more, turn-sound}

@@ -28,8 +28,8 @@ use Rattle.panel.specs.declared.knowledge.Panel.{Panel}
 use Rattle.panel.specs.View.{knownOf, OtherKept}
 use Rattle.replay_answer.specs.declared.answer.Replayed.{Replayed}
 use Rattle.replay_answer.specs.Answer as Replay
-use Rattle.replay_answer.specs.Replay.{Replays}
-use Rattle.replay.specs.ByPart.{PartDone, replays-by, accepts}
+use Rattle.replay_answer.specs.Replay.{PartDone, Replays}
+use Rattle.replay.specs.ByPart.{replays-by, accepts}
 use Rattle.repainted.specs.Repainted.{repaintedBy}
 use Rattle.repainted.specs.ByPart.{painting-accepted, painting-repaints}
 use Rattle.demand.specs.Recording.{eventsFrom}

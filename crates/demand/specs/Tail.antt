@@ -28,8 +28,8 @@ use Rattle.panel.specs.View.{knownOf, KnowsNothing}
 use Rattle.replay_answer.specs.declared.answer.Replayed.{Replayed}
 use Rattle.replay_answer.specs.Answer.{number, place}
 use Rattle.replay_answer.specs.Laws.{part-from}
-use Rattle.replay_answer.specs.Replay.{Replays}
-use Rattle.replay.specs.ByPart.{PartDone, Acceptable, replays-by, accepted, accepts}
+use Rattle.replay_answer.specs.Replay.{PartDone, Replays}
+use Rattle.replay.specs.ByPart.{Acceptable, replays-by, accepted, accepts}
 use Rattle.tail.specs.Tail.{foundBy, found, tailOf, partOfFound}
 use Rattle.tail.specs.declared.gaps.Found.{Found}
 use Rattle.whole.specs.Sentence.{hasGap}

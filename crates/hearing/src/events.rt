@@ -1,9 +1,9 @@
 // What one event makes of a panel's knowledge.
 use crate::halves::after;
-use crate::halves::in_range;
 use carrying::Carried;
 use carrying::carries;
 use panel::Panel;
+use panel_ranges::in_range;
 use terms::Event;
 use terms::Part;
 use terms::PartRead;

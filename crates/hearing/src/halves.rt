@@ -1,32 +1,15 @@
-// The half of a panel's knowledge that speaks of the part: whether it is in range, and what an event makes of it.
+// What an event makes of the half of a panel's knowledge that speaks of the part.
 use panel::Panel;
 use segment::Family;
 use terms::Event;
 use terms::Part;
 ghost use mathlib.Core.Path.{_≡_};
-ghost use Rattle.knowing.specs.Standing.{Sound};
-ghost use Rattle.parts.specs.Facts.{range};
-ghost use Rattle.standing.specs.View.{Tests};
 ghost use Rattle.segment.specs.Family.{sizes};
 ghost use Rattle.segment.specs.Move as SegmentMove;
 ghost use Rattle.segment_knowledge.specs.View as OfSegment;
 ghost use Rattle.character.specs.Move as CharacterMove;
 ghost use Rattle.character_knowledge.specs.View as OfCharacter;
 ghost use Rattle.hearing.specs.Event.{After};
-ghost use Rattle.panel.specs.View.{knownOf};
-
-// Every known value is in its fact's range.
-pub fn in_range(part: Part, panel: Panel) -> bool
-    ensures { λ r. ⌜ Tests r (Sound (range part) (knownOf part panel)) ⌝ }
-{
-    let segment = panel.segment;
-    let character = panel.character;
-    match part {
-        Part::Pt6302 => character_ranges::sound(character),
-        Part::Pt6312 => segment_ranges::sound(Family::Pt6312, segment),
-        Part::Pt6315 => segment_ranges::sound(Family::Pt6315, segment),
-    }
-}
 
 pub fn after(part: Part, panel: Panel, event: Event) -> Panel
     ensures { λ r. ⌜ After part event panel r ⌝ }

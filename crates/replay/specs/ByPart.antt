@@ -1,16 +1,13 @@
--- The answer of a replay, said once over the part, and what an accepted recording is. The argument: for each part the
--- promise of `Replays` is the same one over that part's facts. So number 0 is given exactly where the tests let the
--- recording pass and its records end at its end; then the answer is the done one.
+-- What an accepted recording is. The argument: number 0 is given exactly where the tests let the recording pass and its
+-- records end at its end; then the answer is the done one.
 use Prim.Native.Nat.{ℕ, _+_, _≤_}
 use native.Mathlib.Omega.{arith}
 use mathlib.Core.Path.{_≡_, refl, sym, _∙_, subst}
 use mathlib.Core.List.{List}
 use lib.ListN.{length, drop}
 use Rattle.knowing.specs.Standing.{Sound}
-use Rattle.terms.specs.declared.Event.{Event}
 use Rattle.terms.specs.declared.Place.{Place}
 use Rattle.terms.specs.declared.Part.{Part}
-use Rattle.terms.specs.declared.Part.the-variants.{Pt6302, Pt6312, Pt6315}
 use Rattle.terms.specs.declared.PartRead.{PartRead}
 use Rattle.terms.specs.declared.PartRead.the-variants.{Is}
 use Rattle.recording.specs.Record as Record
@@ -19,53 +16,16 @@ use Rattle.recording.specs.declared.ending.Ending.{Ending}
 use Rattle.recording.specs.declared.ending.Ending.the-variants.{Done, Stops}
 use Rattle.recording.specs.declared.read.Refusal.{Refusal}
 use Rattle.recording.specs.declared.read.Refusal.the-variants.{Unlisted, Foreign, CutShort, Forbidden}
-use Rattle.walks.specs.Left.{InTurn}
-use Rattle.parts.specs.Facts.{same?, range, move}
+use Rattle.parts.specs.Facts.{range}
 use Rattle.panel.specs.declared.knowledge.Panel.{Panel}
-use Rattle.panel.specs.View.{good, bad, knownOf, OtherKept}
+use Rattle.panel.specs.View.{good, bad, knownOf}
 use Rattle.replay_answer.specs.declared.answer.Replayed.{Replayed}
-use Rattle.replay_answer.specs.Answer.{number, place, RefusedBy}
-use Rattle.replay_answer.specs.Replay.{ByEnding, Tested, ReplaysPart, Replays}
+use Rattle.replay_answer.specs.Answer.{number, RefusedBy}
+use Rattle.replay_answer.specs.Replay.{PartDone, ByEnding, Tested, ReplaysPart, Replays}
 
--- Done: number 0 and the recording's length; the events in turn, and the other half kept.
-pub record PartDone (p : Part) (es : List Event) (k : Panel) (l : List ℕ) (r : Replayed) : Type 0 where
-  pub numbered : number (r .answer) ≡ 0
-  pub placed : place (r .answer) ≡ length l
-  pub known : InTurn (knownOf p) (same? p) (range p) (move p) es k (r .panel)
-  pub kept : OtherKept p k (r .panel)
-
--- The answer for the part p: tests 2, 4, 3, then the records from the start place on.
-abbrev pub ReplaysBy : Part → Panel → List ℕ → ℕ → Replayed → Type 0
-ReplaysBy p k l start r =
-    Tested (Sound (range p) (knownOf p k)) k l start r
-    (ByEnding (endOf (walked p (drop start l))) start k r (PartDone p (events (walked p (drop start l))) k l r))
-
--- What follows from being done follows behind the tests and by the ending.
-ending-map : (e : Ending) (start : ℕ) (k : Panel) (r : Replayed) (P Q : Type 0) → (P → Q) → ByEnding e start k r P → ByEnding e start k r Q
-ending-map Done start k r P Q f h = f h
-ending-map (Stops x at) start k r P Q f h = h
-
-tested-map : (G P Q : Type 0) (k : Panel) (l : List ℕ) (start : ℕ) (r : Replayed) → (P → Q) → Tested G k l start r P → Tested G k l start r Q
-tested-map G P Q k l start r f (good a (good b (good c p))) = good a (good b (good c (f p)))
-tested-map G P Q k l start r f (good a (good b (bad c p))) = good a (good b (bad c p))
-tested-map G P Q k l start r f (good a (bad b p)) = good a (bad b p)
-tested-map G P Q k l start r f (bad a p) = bad a p
-
-module _ (k : Panel) (l : List ℕ) (start : ℕ) (r : Replayed) where
-  by-part : (p : Part) → ReplaysPart p k l start r → ReplaysBy p k l start r
-  by-part Pt6302 h =
-      tested-map _ _ _ k l start r
-      (ending-map (endOf (walked Pt6302 (drop start l))) start k r _ _ (λ d. record { numbered = d .numbered; placed = d .placed; known = d .known; kept = d .kept })) h
-  by-part Pt6312 h =
-      tested-map _ _ _ k l start r
-      (ending-map (endOf (walked Pt6312 (drop start l))) start k r _ _ (λ d. record { numbered = d .numbered; placed = d .placed; known = d .known; kept = d .kept })) h
-  by-part Pt6315 h =
-      tested-map _ _ _ k l start r
-      (ending-map (endOf (walked Pt6315 (drop start l))) start k r _ _ (λ d. record { numbered = d .numbered; placed = d .placed; known = d .known; kept = d .kept })) h
-
-  -- What the replay promises, where the part byte names the part p.
-  pub replays-by : (q : PartRead) (p : Part) → q ≡ Is p → Replays q k l start r → ReplaysBy p k l start r
-  replays-by q p e h = by-part p (subst (λ (x : PartRead). Replays x k l start r) e h)
+-- What the replay promises, where the part byte names the part p.
+pub replays-by : (k : Panel) (l : List ℕ) (start : ℕ) (r : Replayed) (q : PartRead) (p : Part) → q ≡ Is p → Replays q k l start r → ReplaysPart p k l start r
+replays-by k l start r q p e h = subst (λ (x : PartRead). Replays x k l start r) e h
 
 -- No refusal has the number 0.
 refusal-numbered : (x : Refusal) → Record.number x ≡ 0 → ⊥
@@ -93,7 +53,7 @@ pub record Acceptable (p : Part) (k : Panel) (l : List ℕ) (start : ℕ) : Type
   pub within : start ≤ length l
   pub ends : endOf (walked p (drop start l)) ≡ Done
 
-module _ (p : Part) (k : Panel) (l : List ℕ) (start : ℕ) (r : Replayed) (met : ReplaysBy p k l start r) where
+module _ (p : Part) (k : Panel) (l : List ℕ) (start : ℕ) (r : Replayed) (met : ReplaysPart p k l start r) where
   -- Number 0: the recording was acceptable, and the answer is the done one.
   pub accepted : number (r .answer) ≡ 0 → Acceptable p k l start × PartDone p (events (walked p (drop start l))) k l r
   accepted z =
@@ -106,7 +66,7 @@ module _ (p : Part) (k : Panel) (l : List ℕ) (start : ℕ) (r : Replayed) (met
       → ByEnding (endOf (walked p (drop start l))) start k r (PartDone p (events (walked p (drop start l))) k l r)
   passed a b c = go met
     where
-      go : ReplaysBy p k l start r → ByEnding (endOf (walked p (drop start l))) start k r (PartDone p (events (walked p (drop start l))) k l r)
+      go : ReplaysPart p k l start r → ByEnding (endOf (walked p (drop start l))) start k r (PartDone p (events (walked p (drop start l))) k l r)
       go (good _ (good _ (good _ h))) = h
       go (good _ (good _ (bad n h))) = absurd (n c)
       go (good _ (bad n h)) = absurd (n b)
@@ -127,7 +87,7 @@ module _ (p : Part) (k : Panel) (l : List ℕ) (start : ℕ) (r : Replayed) (met
       by Done q h = absurd (let n = h .numbered in omega (arith, n, five))
       by (Stops x at) q h = (x, at, q, h)
 
-      go : ReplaysBy p k l start r → (x : Refusal) × (at : Place) × (endOf (walked p (drop start l)) ≡ Stops x at) × RefusedBy (Record.number x) (start + at .0) k r
+      go : ReplaysPart p k l start r → (x : Refusal) × (at : Place) × (endOf (walked p (drop start l)) ≡ Stops x at) × RefusedBy (Record.number x) (start + at .0) k r
       go (good _ (good _ (good _ h))) = by (endOf (walked p (drop start l))) refl h
       go (good _ (good _ (bad _ h))) = absurd (let n = h .numbered in omega (arith, n, five))
       go (good _ (bad _ h)) = absurd (let n = h .numbered in omega (arith, n, five))

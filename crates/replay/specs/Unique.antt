@@ -5,6 +5,7 @@ use mathlib.Core.Path.{_≡_, refl, sym, _∙_}
 use mathlib.Core.List.{List}
 use lib.ListN.{drop}
 use Rattle.terms.specs.declared.Place.{Place}
+use Rattle.terms.specs.declared.Part.{Part}
 use Rattle.terms.specs.declared.Part.the-variants.{Pt6302, Pt6312, Pt6315}
 use Rattle.terms.specs.declared.PartRead.{PartRead}
 use Rattle.terms.specs.declared.PartRead.the-variants.{Is, Refused}
@@ -13,8 +14,8 @@ use Rattle.recording.specs.declared.ending.Ending.{Ending}
 use Rattle.recording.specs.declared.ending.Ending.the-variants as Ended
 use Rattle.recording.specs.Record as Record
 use Rattle.recording.specs.Walk.{walked, events, endOf}
-use Rattle.segment.specs.declared.chip.Family.{Family}
-use Rattle.segment.specs.declared.chip.Family.the-variants as OfFamily
+use Rattle.segment.specs.Fact as SegmentFact
+use Rattle.segment_knowledge.specs.View as OfSegment·View
 use Rattle.segment_knowledge.specs.Unique as OfSegment
 use Rattle.character_knowledge.specs.Unique as OfCharacter
 use Rattle.panel.specs.declared.knowledge.Panel.{Panel}
@@ -24,7 +25,7 @@ use Rattle.replay_answer.specs.declared.answer.Answer.{Answer}
 use Rattle.replay_answer.specs.declared.answer.Answer.the-variants.{Done, NoPart, OutOfRange, BeyondEnd, TooLong, Unlisted, Foreign, CutShort, Forbidden}
 use Rattle.replay_answer.specs.declared.answer.Replayed.{Replayed}
 use Rattle.replay_answer.specs.Answer.{number, place, RefusedBy}
-use Rattle.replay_answer.specs.Replay.{SegmentDone, CharacterDone, ByEnding, Tested, Replays}
+use Rattle.replay_answer.specs.Replay.{PartDone, ByEnding, Tested, Replays}
 
 -- The answer with a number and a place, and that every answer is the one with its own.
 back : ℕ → Place → Answer
@@ -62,17 +63,21 @@ one-refusal : (n at : ℕ) (k : Panel) (r q : Replayed) → RefusedBy n at k r �
 one-refusal n at k r q h g = same-replayed r q (h .numbered ∙ sym (g .numbered)) (h .placed ∙ sym (g .placed)) (h .kept ∙ sym (g .kept))
 
 module _ (k : Panel) (l : List ℕ) (r q : Replayed) (sr : Shaped (r .panel)) (sq : Shaped (q .panel)) where
-  segment-done : (p : Family) (es : List Event) → SegmentDone p es k l r → SegmentDone p es k l q → r ≡ q
-  segment-done p es h g =
-      let halves = OfSegment.same-knowledge (r .panel .segment) (q .panel .segment) (sr .segment) (sq .segment) (λ f. h .known f ∙ sym (g .known f)) in
-      let others = h .kept ∙ sym (g .kept) in
-      same-replayed r q (h .numbered ∙ sym (g .numbered)) (h .placed ∙ sym (g .placed)) (λ i. record { segment = halves i; character = others i })
+  one-done : (p : Part) (es : List Event) → PartDone p es k l r → PartDone p es k l q → r ≡ q
+  one-done p es h g = same-replayed r q (h .numbered ∙ sym (g .numbered)) (h .placed ∙ sym (g .placed)) (halves p h g)
+    where
+      segment : (r .panel .character ≡ q .panel .character) → ((f : SegmentFact.Fact) → OfSegment·View.kview (r .panel .segment) f ≡ OfSegment·View.kview (q .panel .segment) f) → r .panel ≡ q .panel
+      segment others facts =
+          let half = OfSegment.same-knowledge (r .panel .segment) (q .panel .segment) (sr .segment) (sq .segment) facts in
+          λ i. record { segment = half i; character = others i }
 
-  character-done : (es : List Event) → CharacterDone es k l r → CharacterDone es k l q → r ≡ q
-  character-done es h g =
-      let halves = OfCharacter.same-knowledge (r .panel .character) (q .panel .character) (sr .character) (sq .character) (λ f. h .known f ∙ sym (g .known f)) in
-      let others = h .kept ∙ sym (g .kept) in
-      same-replayed r q (h .numbered ∙ sym (g .numbered)) (h .placed ∙ sym (g .placed)) (λ i. record { segment = others i; character = halves i })
+      halves : (p : Part) → PartDone p es k l r → PartDone p es k l q → r .panel ≡ q .panel
+      halves Pt6302 h g =
+          let half = OfCharacter.same-knowledge (r .panel .character) (q .panel .character) (sr .character) (sq .character) (λ f. h .known f ∙ sym (g .known f)) in
+          let others = h .kept ∙ sym (g .kept) in
+          λ i. record { segment = others i; character = half i }
+      halves Pt6312 h g = segment (h .kept ∙ sym (g .kept)) (λ f. h .known f ∙ sym (g .known f))
+      halves Pt6315 h g = segment (h .kept ∙ sym (g .kept)) (λ f. h .known f ∙ sym (g .known f))
 
   -- By how the records end.
   ended : (e : Ending) (start : ℕ) (P Q : Type 0) → (P → Q → r ≡ q) → ByEnding e start k r P → ByEnding e start k q Q → r ≡ q
@@ -97,7 +102,5 @@ module _ (k : Panel) (l : List ℕ) (r q : Replayed) (sr : Shaped (r .panel)) (s
 
   -- Two answers of one replay are one.
   pub one-replayed : (part : PartRead) (start : ℕ) → Replays part k l start r → Replays part k l start q → r ≡ q
-  one-replayed (Is Pt6302) start h g = tested _ start _ _ (ended (endOf (walked Pt6302 (drop start l))) start _ _ (character-done (events (walked Pt6302 (drop start l))))) h g
-  one-replayed (Is Pt6312) start h g = tested _ start _ _ (ended (endOf (walked Pt6312 (drop start l))) start _ _ (segment-done OfFamily.Pt6312 (events (walked Pt6312 (drop start l))))) h g
-  one-replayed (Is Pt6315) start h g = tested _ start _ _ (ended (endOf (walked Pt6315 (drop start l))) start _ _ (segment-done OfFamily.Pt6315 (events (walked Pt6315 (drop start l))))) h g
+  one-replayed (Is p) start h g = tested _ start _ _ (ended (endOf (walked p (drop start l))) start _ _ (one-done p (events (walked p (drop start l))))) h g
   one-replayed (Refused at) start h g = one-refusal 1 0 k r q h g

@@ -1,16 +1,19 @@
 // The replay for all parts: the part byte is looked at once.
-use character_replay::character_replay;
 use panel::Panel;
+use panel_ranges::in_range;
+use panel_walks::panel_walk;
+use recording::Ending;
 use replay_answer::Answer;
 use replay_answer::Replayed;
-use segment::Family;
-use segment_replay::segment_replay;
+use replay_answer::refused;
 use terms::Part;
 use terms::PartRead;
 use terms::Place;
 use terms::part_of;
+ghost use Prim.Native.Nat.{_≤_};
+ghost use lib.ListN.{length};
 ghost use Rattle.terms.specs.Part.{partOf};
-ghost use Rattle.replay_answer.specs.Replay.{Replays, ReplaysPart};
+ghost use Rattle.replay_answer.specs.Replay.{Replays, ReplaysPart, ReplaysFrom};
 
 pub fn replay(part: u8, panel: Panel, recording: &[u8], start: Place) -> Replayed
     ensures { λ r. ⌜ Replays (partOf part) panel (now (recording .entry)) (start .0) r ⌝ }
@@ -25,12 +28,48 @@ pub fn replay(part: u8, panel: Panel, recording: &[u8], start: Place) -> Replaye
     }
 }
 
+// Tests 2, 4 and 3, then the records.
 fn replay_part(part: Part, panel: Panel, recording: &[u8], start: Place) -> Replayed
     ensures { λ r. ⌜ ReplaysPart part panel (now (recording .entry)) (start .0) r ⌝ }
 {
-    match part {
-        Part::Pt6302 => character_replay(panel, recording, start),
-        Part::Pt6312 => segment_replay(Part::Pt6312, Family::Pt6312, panel, recording, start),
-        Part::Pt6315 => segment_replay(Part::Pt6315, Family::Pt6315, panel, recording, start),
+    if !in_range(part, panel) {
+        return Replayed {
+            answer: Answer::OutOfRange(Place(0)),
+            panel,
+        };
+    }
+    if 65535 < recording.len() {
+        return Replayed {
+            answer: Answer::TooLong(Place(0)),
+            panel,
+        };
+    }
+    let from = start.0;
+    if recording.len() < from {
+        return Replayed {
+            answer: Answer::BeyondEnd(Place(0)),
+            panel,
+        };
+    }
+    replay_from(part, panel, recording, from)
+}
+
+// The records from a place on; places are counted from the front again, and a refusal hands the knowledge back.
+fn replay_from(part: Part, panel: Panel, recording: &[u8], from: usize) -> Replayed
+    requires { ⌜ (length (now recording) ≤ 65535) × (from ≤ length (now recording)) ⌝ }
+    ensures { λ r. ⌜ ReplaysFrom part panel (now (recording .entry)) from r ⌝ }
+{
+    let walked = panel_walk(part, panel, &recording[from..]);
+    let ending = walked.ending;
+    let after = walked.panel;
+    match ending {
+        Ending::Done => Replayed {
+            answer: Answer::Done(Place(recording.len())),
+            panel: after,
+        },
+        Ending::Stops(refusal, at) => Replayed {
+            answer: refused(refusal, Place(from + at.0)),
+            panel,
+        },
     }
 }

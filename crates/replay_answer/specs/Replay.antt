@@ -7,42 +7,25 @@ use Rattle.knowing.specs.Standing.{Sound}
 use Rattle.terms.specs.declared.Event.{Event}
 use Rattle.terms.specs.declared.Place.{Place}
 use Rattle.terms.specs.declared.Part.{Part}
-use Rattle.terms.specs.declared.Part.the-variants.{Pt6302, Pt6312, Pt6315}
 use Rattle.terms.specs.declared.PartRead.{PartRead}
 use Rattle.terms.specs.declared.PartRead.the-variants.{Is, Refused}
 use Rattle.recording.specs.Record as Record
-use Rattle.recording.specs.Walk.{Walk, walked, events, endOf}
+use Rattle.recording.specs.Walk.{walked, events, endOf}
 use Rattle.recording.specs.declared.ending.Ending.{Ending}
 use Rattle.recording.specs.declared.ending.Ending.the-variants.{Done, Stops}
 use Rattle.walks.specs.Left.{InTurn}
-use Rattle.segment.specs.declared.chip.Family.{Family}
-use Rattle.segment.specs.declared.chip.Family.the-variants as OfFamily
-use Rattle.segment.specs.Family.{sizes}
-use Rattle.segment.specs.Fact as SegmentFact
-use Rattle.segment.specs.Move as SegmentMove
-use Rattle.segment_knowledge.specs.View as OfSegment
-use Rattle.character.specs.Fact as CharacterFact
-use Rattle.character.specs.Move as CharacterMove
-use Rattle.character_knowledge.specs.View as OfCharacter
+use Rattle.parts.specs.Facts.{same?, range, move}
 use Rattle.panel.specs.declared.knowledge.Panel.{Panel}
-use Rattle.panel.specs.View.{Where}
+use Rattle.panel.specs.View.{knownOf, OtherKept, Where}
 use Rattle.replay_answer.specs.declared.answer.Replayed.{Replayed}
 use Rattle.replay_answer.specs.Answer.{number, place, RefusedBy}
 
--- Done: number 0 and the recording's length; the events in turn, and the other half kept.
-pub record SegmentDone (p : Family) (es : List Event) (k : Panel) (l : List ℕ) (r : Replayed) : Type 0 where
+-- Done: number 0 and the recording's length; the events in turn, and the half that speaks of the other parts kept.
+pub record PartDone (p : Part) (es : List Event) (k : Panel) (l : List ℕ) (r : Replayed) : Type 0 where
   pub numbered : number (r .answer) ≡ 0
   pub placed : place (r .answer) ≡ length l
-  pub known : InTurn OfSegment.kview SegmentFact.same? (SegmentFact.range (sizes p)) (SegmentMove.move (sizes p)) es
-      (k .segment) (r .panel .segment)
-  pub kept : r .panel .character ≡ k .character
-
-pub record CharacterDone (es : List Event) (k : Panel) (l : List ℕ) (r : Replayed) : Type 0 where
-  pub numbered : number (r .answer) ≡ 0
-  pub placed : place (r .answer) ≡ length l
-  pub known : InTurn OfCharacter.kview CharacterFact.same? CharacterFact.range CharacterMove.move es
-      (k .character) (r .panel .character)
-  pub kept : r .panel .segment ≡ k .segment
+  pub known : InTurn (knownOf p) (same? p) (range p) (move p) es k (r .panel)
+  pub kept : OtherKept p k (r .panel)
 
 -- By how the records end: P where they are done, else 5, 6, 7 or 8 at the record's first byte, counted from the front
 -- of the whole recording.
@@ -50,11 +33,11 @@ abbrev pub ByEnding : Ending → ℕ → Panel → Replayed → Type 0 → Type 
 ByEnding Done start k r P = P
 ByEnding (Stops x at) start k r P = RefusedBy (Record.number x) (start + at .0) k r
 
-abbrev pub SegmentWalks : Family → Panel → List ℕ → ℕ → Walk → Replayed → Type 0
-SegmentWalks p k l start w r = ByEnding (endOf w) start k r (SegmentDone p (events w) k l r)
-
-abbrev pub CharacterWalks : Panel → List ℕ → ℕ → Walk → Replayed → Type 0
-CharacterWalks k l start w r = ByEnding (endOf w) start k r (CharacterDone (events w) k l r)
+-- The records from the start place on.
+abbrev pub ReplaysFrom : Part → Panel → List ℕ → ℕ → Replayed → Type 0
+ReplaysFrom p k l start r =
+    let w = walked p (drop start l) in
+    ByEnding (endOf w) start k r (PartDone p (events w) k l r)
 
 -- Tests 2, 4, 3, each exactly then and at place 0.
 abbrev pub Tested : Type 0 → Panel → List ℕ → ℕ → Replayed → Type 0 → Type 0
@@ -63,21 +46,8 @@ Tested good k l start r P =
     (Where (length l ≤ 65535) (Where (start ≤ length l) P (RefusedBy 3 0 k r)) (RefusedBy 4 0 k r))
     (RefusedBy 2 0 k r)
 
--- Then the records from the start place on.
-abbrev pub SegmentReplays : Part → Family → Panel → List ℕ → ℕ → Replayed → Type 0
-SegmentReplays part p k l start r =
-    Tested (Sound (SegmentFact.range (sizes p)) (OfSegment.kview (k .segment))) k l start r
-    (SegmentWalks p k l start (walked part (drop start l)) r)
-
-abbrev pub CharacterReplays : Panel → List ℕ → ℕ → Replayed → Type 0
-CharacterReplays k l start r =
-    Tested (Sound CharacterFact.range (OfCharacter.kview (k .character))) k l start r
-    (CharacterWalks k l start (walked Pt6302 (drop start l)) r)
-
 abbrev pub ReplaysPart : Part → Panel → List ℕ → ℕ → Replayed → Type 0
-ReplaysPart Pt6302 k l start r = CharacterReplays k l start r
-ReplaysPart Pt6312 k l start r = SegmentReplays Pt6312 OfFamily.Pt6312 k l start r
-ReplaysPart Pt6315 k l start r = SegmentReplays Pt6315 OfFamily.Pt6315 k l start r
+ReplaysPart p k l start r = Tested (Sound (range p) (knownOf p k)) k l start r (ReplaysFrom p k l start r)
 
 -- Test 1 comes first.
 abbrev pub Replays : PartRead → Panel → List ℕ → ℕ → Replayed → Type 0

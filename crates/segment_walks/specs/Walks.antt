@@ -11,10 +11,10 @@ use Rattle.segment.specs.Move.{move}
 use Rattle.segment_knowledge.specs.declared.knowledge.Knowledge.{Knowledge}
 use Rattle.segment_knowledge.specs.View.{kview}
 use Rattle.segment_walks.specs.declared.SegmentWalked.{SegmentWalked}
-use Rattle.walks.specs.Left.{Left, InTurn}
+use Rattle.walks.specs.Left.{InTurn}
 
--- The records from the front, each by 5, 6, 7, 8; the events in turn, or the knowledge as it was.
+-- The records from the front, each by 5, 6, 7, 8: how they end, and what the events before that, in turn, make of the
+-- knowledge.
 pub record Walks (part : Part) (p : Family) (k : Knowledge) (l : List ℕ) (r : SegmentWalked) : Type 0 where
   pub ended : r .ending ≡ endOf (walked part l)
-  pub left : Left (r .ending)
-      (InTurn kview same? (range (sizes p)) (move (sizes p)) (events (walked part l)) k (r .k)) (r .k ≡ k)
+  pub known : InTurn kview same? (range (sizes p)) (move (sizes p)) (events (walked part l)) k (r .k)

@@ -19,7 +19,7 @@ use terms::Part;
 use terms::Place;
 ghost use Rattle.segment_walks.specs.Walks.{Walks};
 
-// How the walk ended, and the knowledge: after all events where it is done, else as it was.
+// How the walk ended, and the knowledge after all events before that.
 pub struct SegmentWalked {
     pub ending: Ending,
     pub k: Knowledge,
@@ -76,10 +76,7 @@ fn walk(part: Part, family: Family, first: [u16; 36], was: Control, bytes: &[u8]
             Read::Refused(refusal) => {
                 return SegmentWalked {
                     ending: Ending::Stops(refusal, Place(i)),
-                    k: Knowledge {
-                        cells: first,
-                        control: was,
-                    },
+                    k: Knowledge { cells, control },
                 };
             }
         }

@@ -35,5 +35,6 @@ module _ {F K : Type 0} (view : K → F → Standing) (same? : Discrete F) (rang
   pub kept-done : (w : Walk) (first k : K) → Kept w first done k → (Done ≡ endOf w) × InTurn view same? range move (events w) first k
   kept-done w first k h = (sym (h .ends), λ f. sym (h .makes f))
 
-  pub kept-stops : (w : Walk) (first k : K) (r : Refusal) (at : ℕ) → Kept w first (stops r at) k → Stops r (record { 0 = at }) ≡ endOf w
-  kept-stops w first k r at h = sym (h .ends)
+  pub kept-stops : (w : Walk) (first k : K) (r : Refusal) (at : ℕ) → Kept w first (stops r at) k
+      → (Stops r (record { 0 = at }) ≡ endOf w) × InTurn view same? range move (events w) first k
+  kept-stops w first k r at h = (sym (h .ends), λ f. sym (h .makes f))

@@ -6,13 +6,6 @@ use Rattle.rules.specs.Rule.{Rule}
 use Rattle.knowing.specs.Standing.{Standing}
 use Rattle.knowing.specs.Turn.{inTurn}
 use Rattle.terms.specs.declared.Event.{Event}
-use Rattle.recording.specs.declared.ending.Ending.{Ending}
-use Rattle.recording.specs.declared.ending.Ending.the-variants.{Done, Stops}
-
--- P where the walk is done, Q where it stops.
-abbrev pub Left : Ending → Type 0 → Type 0 → Type 0
-Left Done P Q = P
-Left (Stops r at) P Q = Q
 
 -- The knowledge r is what the events, in turn, make of k.
 abbrev pub InTurn : {F K : Type 0} → (K → F → Standing) → Discrete F → (F → ℕ) → (Event → Rule F F)

@@ -22,12 +22,12 @@ use Rattle.character_walks.proofs.character_walk.Statement.{statement}
 use Rattle.character_walks.proofs.character_walk.Tie as tie
 
 abbrev Inv-loop : tie.InvT-loop
-Inv-loop part k bytes dcram₀ cgram₀ adram₀ control₀ i₀ dcram cgram adram control i =
-    ((i ≤ length bytes) × Kept kview same? range move (walked part bytes) k (rest part bytes i) (record { dcram = dcram; cgram = cgram; adram = adram; control = control }))
+Inv-loop part bytes dcram₀ cgram₀ adram₀ control₀ i₀ dcram cgram adram control i =
+    ((i ≤ length bytes) × Kept kview same? range move (walked part bytes) (record { dcram = dcram₀; cgram = cgram₀; adram = adram₀; control = control₀ }) (rest part bytes i) (record { dcram = dcram; cgram = cgram; adram = adram; control = control }))
     × Sized dcram cgram adram
 
 abbrev μ-loop : tie.MeasureT-loop
-μ-loop part k bytes dcram₀ cgram₀ adram₀ control₀ i₀ dcram cgram adram control i = length bytes - i
+μ-loop part bytes dcram₀ cgram₀ adram₀ control₀ i₀ dcram cgram adram control i = length bytes - i
 
 loop-holds : tie.Need-loop-holds Inv-loop μ-loop
 loop-holds c = let a = c .before .before .before .before .before .args in
@@ -180,10 +180,8 @@ returns c = let a = c .before .before .before .before .before .before .before .b
     let at = c .before .before .before .before .before .loop in
     let w = walked (a .part) (a .bytes .now) in
     let h = rest-stops (a .part) (a .bytes .now) (at .i) _ (c .before .before .before .before .loop-test .taken) (sym (c .before .before .before .record-at .ensures) ∙ c .before .read2 .given .1) in
-    record {
-      ended = kept-stops kview same? range move w (a .k) _ _ (at .i) (kept-as kview same? range move w (a .k) (rest (a .part) (a .bytes .now) (at .i)) _ _ h (at .inv .0 .1));
-      left = refl;
-    }
+    let d = kept-stops kview same? range move w (a .k) _ _ (at .i) (kept-as kview same? range move w (a .k) (rest (a .part) (a .bytes .now) (at .i)) _ _ h (at .inv .0 .1)) in
+    record { ended = d .0; known = d .1 }
 
 returns-2 : tie.Need-returns-2 Inv-loop μ-loop
 returns-2 c = let a = c .before .before .before .before .before .before .before .args in
@@ -191,7 +189,7 @@ returns-2 c = let a = c .before .before .before .before .before .before .before 
     let w = walked (a .part) (a .bytes .now) in
     let h = rest-end (a .part) (a .bytes .now) (at .i) (c .loop-test .left) in
     let d = kept-done kview same? range move w (a .k) _ (kept-as kview same? range move w (a .k) (rest (a .part) (a .bytes .now) (at .i)) done _ h (at .inv .0 .1)) in
-    record { ended = d .0; left = d .1 }
+    record { ended = d .0; known = d .1 }
 
 pub character-walk-spec : {M : Type 1} → statement M
 character-walk-spec =

@@ -27,11 +27,11 @@ use Rattle.segment_walks.proofs.walk.Statement.{statement}
 use Rattle.segment_walks.proofs.walk.Tie as tie
 
 abbrev Inv-loop : tie.InvT-loop
-Inv-loop part family first was bytes cells₀ control₀ i₀ cells control i =
-    ((i ≤ length bytes) × Kept kview same? (range (sizes family)) (move (sizes family)) (walked part bytes) (record { cells = first; control = was }) (rest part bytes i) (record { cells = cells; control = control })) × (length cells ≡ 36)
+Inv-loop part family bytes cells₀ control₀ i₀ cells control i =
+    ((i ≤ length bytes) × Kept kview same? (range (sizes family)) (move (sizes family)) (walked part bytes) (record { cells = cells₀; control = control₀ }) (rest part bytes i) (record { cells = cells; control = control })) × (length cells ≡ 36)
 
 abbrev μ-loop : tie.MeasureT-loop
-μ-loop part family first was bytes cells₀ control₀ i₀ cells control i = length bytes - i
+μ-loop part family bytes cells₀ control₀ i₀ cells control i = length bytes - i
 
 -- What a target says, of one that is another in name.
 hit : (s : Sizes) (c : Control) {t u : Target} → t ≡ u → Hits s c t → Hits s c u
@@ -172,10 +172,8 @@ returns c = let a = c .before .before .before .before .before .before .before .a
     let at = c .before .before .before .before .before .loop in
     let w = walked (a .part) (a .bytes .now) in
     let h = rest-stops (a .part) (a .bytes .now) (at .i) _ (c .before .before .before .before .loop-test .taken) (sym (c .before .before .before .record-at .ensures) ∙ c .before .read2 .given .1) in
-    record {
-      ended = kept-stops kview same? (range (sizes (a .family))) (move (sizes (a .family))) w first _ _ (at .i) (kept-as kview same? (range (sizes (a .family))) (move (sizes (a .family))) w first (rest (a .part) (a .bytes .now) (at .i)) _ _ h (at .inv .0 .1));
-      left = refl;
-    }
+    let d = kept-stops kview same? (range (sizes (a .family))) (move (sizes (a .family))) w first _ _ (at .i) (kept-as kview same? (range (sizes (a .family))) (move (sizes (a .family))) w first (rest (a .part) (a .bytes .now) (at .i)) _ _ h (at .inv .0 .1)) in
+    record { ended = d .0; known = d .1 }
 
 returns-2 : tie.Need-returns-2 Inv-loop μ-loop
 returns-2 c = let a = c .before .before .before .args in
@@ -184,7 +182,7 @@ returns-2 c = let a = c .before .before .before .args in
     let w = walked (a .part) (a .bytes .now) in
     let h = rest-end (a .part) (a .bytes .now) (at .i) (c .loop-test .left) in
     let d = kept-done kview same? (range (sizes (a .family))) (move (sizes (a .family))) w first _ (kept-as kview same? (range (sizes (a .family))) (move (sizes (a .family))) w first (rest (a .part) (a .bytes .now) (at .i)) done _ h (at .inv .0 .1)) in
-    record { ended = d .0; left = d .1 }
+    record { ended = d .0; known = d .1 }
 
 pub walk-spec : {M : Type 1} → statement M
 walk-spec =

@@ -1,8 +1,8 @@
--- `hearing::halves::in_range` meets its contract: each part by the test of its half.
+-- `panel_ranges::in_range` meets its contract: each part by the test of its half.
 -- Assumes nothing.
 use borrow.Author.Needs.{needs}
-use Rattle.hearing.proofs.halves.in_range.Statement.{statement}
-use Rattle.hearing.proofs.halves.in_range.Tie as tie
+use Rattle.panel_ranges.proofs.in_range.Statement.{statement}
+use Rattle.panel_ranges.proofs.in_range.Tie as tie
 
 enum-told : tie.Need-enum-told
 enum-told c = search needs

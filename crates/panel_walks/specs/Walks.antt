@@ -1,0 +1,30 @@
+-- What the walk promises for a panel of any part.
+use Prim.Native.Nat.{ℕ}
+use mathlib.Core.Path.{_≡_}
+use mathlib.Core.List.{List}
+use Rattle.terms.specs.declared.Part.{Part}
+use Rattle.recording.specs.Walk.{walked, events, endOf}
+use Rattle.walks.specs.Left.{InTurn}
+use Rattle.parts.specs.Facts.{same?, range, move}
+use Rattle.segment.specs.declared.chip.Family.{Family}
+use Rattle.segment.specs.Family.{sizes}
+use Rattle.segment.specs.Fact as SegmentFact
+use Rattle.segment.specs.Move as SegmentMove
+use Rattle.segment_knowledge.specs.View as OfSegment
+use Rattle.panel.specs.declared.knowledge.Panel.{Panel}
+use Rattle.panel.specs.View.{knownOf, OtherKept}
+use Rattle.panel_walks.specs.declared.PanelWalked.{PanelWalked}
+
+-- The records from the front, each by 5, 6, 7, 8: how they end, what the events before that, in turn, make of the
+-- knowledge, and that the half that speaks of the other parts is as it was.
+pub record Walks (p : Part) (k : Panel) (l : List ℕ) (r : PanelWalked) : Type 0 where
+  pub ended : r .ending ≡ endOf (walked p l)
+  pub known : InTurn (knownOf p) (same? p) (range p) (move p) (events (walked p l)) k (r .panel)
+  pub kept : OtherKept p k (r .panel)
+
+-- The same for PT6312 and PT6315, by the family's numbers.
+pub record SegmentWalks (part : Part) (p : Family) (k : Panel) (l : List ℕ) (r : PanelWalked) : Type 0 where
+  pub ended : r .ending ≡ endOf (walked part l)
+  pub known : InTurn OfSegment.kview SegmentFact.same? (SegmentFact.range (sizes p)) (SegmentMove.move (sizes p))
+      (events (walked part l)) (k .segment) (r .panel .segment)
+  pub kept : r .panel .character ≡ k .character

@@ -1,0 +1,51 @@
+// The walk over the records of a recording, through the knowledge of a panel of any part.
+use character_walks::character_walk;
+use panel::Panel;
+use recording::Ending;
+use segment::Family;
+use segment_walks::segment_walk;
+use terms::Part;
+ghost use Rattle.terms.specs.declared.Part.the-variants.{Pt6302};
+ghost use Rattle.panel_walks.specs.Walks.{Walks, SegmentWalks};
+
+// How the walk ended, and the knowledge after all events before that.
+pub struct PanelWalked {
+    pub ending: Ending,
+    pub panel: Panel,
+}
+
+pub fn panel_walk(part: Part, panel: Panel, bytes: &[u8]) -> PanelWalked
+    ensures { λ r. ⌜ Walks part panel (now (bytes .entry)) r ⌝ }
+{
+    match part {
+        Part::Pt6302 => character_walked(panel, bytes),
+        Part::Pt6312 => segment_walked(Part::Pt6312, Family::Pt6312, panel, bytes),
+        Part::Pt6315 => segment_walked(Part::Pt6315, Family::Pt6315, panel, bytes),
+    }
+}
+
+fn segment_walked(part: Part, family: Family, panel: Panel, bytes: &[u8]) -> PanelWalked
+    ensures { λ r. ⌜ SegmentWalks part family panel (now (bytes .entry)) r ⌝ }
+{
+    let k = panel.segment;
+    let walked = segment_walk(part, family, k, bytes);
+    let ending = walked.ending;
+    let segment = walked.k;
+    PanelWalked {
+        ending,
+        panel: Panel { segment, ..panel },
+    }
+}
+
+fn character_walked(panel: Panel, bytes: &[u8]) -> PanelWalked
+    ensures { λ r. ⌜ Walks Pt6302 panel (now (bytes .entry)) r ⌝ }
+{
+    let k = panel.character;
+    let walked = character_walk(Part::Pt6302, k, bytes);
+    let ending = walked.ending;
+    let character = walked.k;
+    PanelWalked {
+        ending,
+        panel: Panel { character, ..panel },
+    }
+}
