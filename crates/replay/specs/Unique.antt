@@ -6,7 +6,6 @@ use mathlib.Core.List.{List}
 use lib.ListN.{drop}
 use Rattle.terms.specs.declared.Place.{Place}
 use Rattle.terms.specs.declared.Part.{Part}
-use Rattle.terms.specs.declared.Part.the-variants.{Pt6302, Pt6312, Pt6315}
 use Rattle.terms.specs.declared.PartRead.{PartRead}
 use Rattle.terms.specs.declared.PartRead.the-variants.{Is, Refused}
 use Rattle.terms.specs.declared.Event.{Event}
@@ -14,13 +13,9 @@ use Rattle.recording.specs.declared.ending.Ending.{Ending}
 use Rattle.recording.specs.declared.ending.Ending.the-variants as Ended
 use Rattle.recording.specs.Record as Record
 use Rattle.recording.specs.Walk.{walked, events, endOf}
-use Rattle.segment.specs.Fact as SegmentFact
-use Rattle.segment_knowledge.specs.View as OfSegment·View
-use Rattle.segment_knowledge.specs.Unique as OfSegment
-use Rattle.character_knowledge.specs.Unique as OfCharacter
 use Rattle.panel.specs.declared.knowledge.Panel.{Panel}
 use Rattle.panel.specs.View.{good, bad}
-use Rattle.panel.specs.Unique.{Shaped}
+use Rattle.panel.specs.Unique.{Shaped, same-panel}
 use Rattle.replay_answer.specs.declared.answer.Answer.{Answer}
 use Rattle.replay_answer.specs.declared.answer.Answer.the-variants.{Done, NoPart, OutOfRange, BeyondEnd, TooLong, Unlisted, Foreign, CutShort, Forbidden}
 use Rattle.replay_answer.specs.declared.answer.Replayed.{Replayed}
@@ -64,20 +59,9 @@ one-refusal n at k r q h g = same-replayed r q (h .numbered ∙ sym (g .numbered
 
 module _ (k : Panel) (l : List ℕ) (r q : Replayed) (sr : Shaped (r .panel)) (sq : Shaped (q .panel)) where
   one-done : (p : Part) (es : List Event) → PartDone p es k l r → PartDone p es k l q → r ≡ q
-  one-done p es h g = same-replayed r q (h .numbered ∙ sym (g .numbered)) (h .placed ∙ sym (g .placed)) (halves p h g)
-    where
-      segment : (r .panel .character ≡ q .panel .character) → ((f : SegmentFact.Fact) → OfSegment·View.kview (r .panel .segment) f ≡ OfSegment·View.kview (q .panel .segment) f) → r .panel ≡ q .panel
-      segment others facts =
-          let half = OfSegment.same-knowledge (r .panel .segment) (q .panel .segment) (sr .segment) (sq .segment) facts in
-          λ i. record { segment = half i; character = others i }
-
-      halves : (p : Part) → PartDone p es k l r → PartDone p es k l q → r .panel ≡ q .panel
-      halves Pt6302 h g =
-          let half = OfCharacter.same-knowledge (r .panel .character) (q .panel .character) (sr .character) (sq .character) (λ f. h .known f ∙ sym (g .known f)) in
-          let others = h .kept ∙ sym (g .kept) in
-          λ i. record { segment = others i; character = half i }
-      halves Pt6312 h g = segment (h .kept ∙ sym (g .kept)) (λ f. h .known f ∙ sym (g .known f))
-      halves Pt6315 h g = segment (h .kept ∙ sym (g .kept)) (λ f. h .known f ∙ sym (g .known f))
+  one-done p es h g =
+      same-replayed r q (h .numbered ∙ sym (g .numbered)) (h .placed ∙ sym (g .placed))
+      (same-panel p k (r .panel) (q .panel) sr sq (λ f. h .known f ∙ sym (g .known f)) (h .kept) (g .kept))
 
   -- By how the records end.
   ended : (e : Ending) (start : ℕ) (P Q : Type 0) → (P → Q → r ≡ q) → ByEnding e start k r P → ByEnding e start k q Q → r ≡ q

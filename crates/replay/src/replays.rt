@@ -1,11 +1,12 @@
 // The replay for all parts: the part byte is looked at once.
 use panel::Panel;
-use panel_ranges::in_range;
 use panel_walks::panel_walk;
 use recording::Ending;
 use replay_answer::Answer;
 use replay_answer::Replayed;
 use replay_answer::refused;
+use replay_tests::Trial;
+use replay_tests::tried;
 use terms::Part;
 use terms::PartRead;
 use terms::Place;
@@ -32,26 +33,11 @@ pub fn replay(part: u8, panel: Panel, recording: &[u8], start: Place) -> Replaye
 fn replay_part(part: Part, panel: Panel, recording: &[u8], start: Place) -> Replayed
     ensures { λ r. ⌜ ReplaysPart part panel (now (recording .entry)) (start .0) r ⌝ }
 {
-    if !in_range(part, panel) {
-        return Replayed {
-            answer: Answer::OutOfRange(Place(0)),
-            panel,
-        };
+    let tried = tried(part, panel, recording.len(), start);
+    match tried {
+        Trial::Passed => replay_from(part, panel, recording, start.0),
+        Trial::Refused(answer) => Replayed { answer, panel },
     }
-    if 65535 < recording.len() {
-        return Replayed {
-            answer: Answer::TooLong(Place(0)),
-            panel,
-        };
-    }
-    let from = start.0;
-    if recording.len() < from {
-        return Replayed {
-            answer: Answer::BeyondEnd(Place(0)),
-            panel,
-        };
-    }
-    replay_from(part, panel, recording, from)
 }
 
 // The records from a place on; places are counted from the front again, and a refusal hands the knowledge back.

@@ -1,32 +1,49 @@
--- `replay::replays::replay_part` meets its contract: the tests decide, in their order, and the walk does the rest.
+-- `replay::replays::replay_part` meets its contract: what was tried decides, and the walk does the rest.
 -- Assumes nothing.
-use native.Mathlib.Omega.{arith}
-use borrow.Author.Tests.{not-true, not-false}
-use mathlib.Core.Bool.{true≢false}
-use mathlib.Core.Path.{refl, sym, _∙_}
-use Rattle.panel.specs.View.{good, bad}
+use Prim.Native.Nat.{ℕ}
+use mathlib.Core.Path.{_≡_, subst}
+use lib.ListN.{length}
+use Rattle.knowing.specs.Standing.{Sound}
+use Rattle.terms.specs.declared.Part.{Part}
+use Rattle.parts.specs.Facts.{range}
+use Rattle.panel.specs.declared.knowledge.Panel.{Panel}
+use Rattle.panel.specs.View.{good, knownOf}
+use Rattle.replay_tests.specs.declared.Trial.{Trial}
+use Rattle.replay_tests.specs.Tests.{Tries}
+use Rattle.replay_tests.specs.Laws.{refuses-tested}
 use borrow.Author.Needs.{needs}
 use Rattle.replay.proofs.replays.replay_part.Statement.{statement}
 use Rattle.replay.proofs.replays.replay_part.Tie as tie
 
-in-range-requires : tie.Need-in-range-requires
-in-range-requires c κs = search needs
+-- What a trial says, of one that is another in name.
+tells : (p : Part) (k : Panel) (n start : ℕ) {t u : Trial} → t ≡ u → Tries (Sound (range p) (knownOf p k)) n start t → Tries (Sound (range p) (knownOf p k)) n start u
+tells p k n start e h = subst (λ (x : Trial). Tries (Sound (range p) (knownOf p k)) n start x) e h
 
-returns : tie.Need-returns
-returns c = bad (λ g. true≢false (sym (c .before .in-range .ensures .back g) ∙ not-true _ (c .if1 .taken))) (record { numbered = refl; placed = refl; kept = refl })
+tried-requires : tie.Need-tried-requires
+tried-requires c κs = search needs
 
-returns-2 : tie.Need-returns-2
-returns-2 c = good (c .before .before .in-range .ensures .so (not-false _ (c .before .if1 .left))) (bad (λ h. omega (arith, h, c .if2 .taken)) (record { numbered = refl; placed = refl; kept = refl }))
-
-returns-3 : tie.Need-returns-3
-returns-3 c = good (c .before .before .before .in-range .ensures .so (not-false _ (c .before .before .if1 .left))) (good (c .before .if2 .left) (bad (λ h. omega (arith, h, c .if3 .taken)) (record { numbered = refl; placed = refl; kept = refl })))
+enum-told : tie.Need-enum-told
+enum-told c = search needs
 
 replay-from-requires : tie.Need-replay-from-requires
-replay-from-requires c κs = search needs
+replay-from-requires c κs =
+    let a = c .before .before .before .before .args in
+    let p = tells (a .part) (a .panel) (length (a .recording .now)) (a .start .0) (c .enum-told .given .1) (c .before .before .tried .ensures) in
+    (p .1, p .2)
 
-returns-4 : tie.Need-returns-4
-returns-4 c = good (c .before .before .before .before .in-range .ensures .so (not-false _ (c .before .before .before .if1 .left))) (good (c .before .before .if2 .left) (good (c .before .if3 .left) (c .replay-from .ensures)))
+enum-known-tried : tie.Need-enum-known-tried
+enum-known-tried c = search needs
+
+returns : tie.Need-returns
+returns c =
+    let a = c .before .before .before .before .before .args in
+    let p = tells (a .part) (a .panel) (length (a .recording .now)) (a .start .0) (c .before .enum-told .given .1) (c .before .before .before .tried .ensures) in
+    good (p .0) (good (p .1) (good (p .2) (c .replay-from .ensures)))
+
+returns-2 : tie.Need-returns-2
+returns-2 c =
+    let a = c .before .before .before .before .before .args in
+    refuses-tested (a .panel) (a .recording .now) (a .start .0) _ (tells (a .part) (a .panel) (length (a .recording .now)) (a .start .0) (c .before .tried2 .given .1) (c .before .before .before .tried .ensures))
 
 pub replay-part-spec : {M : Type 1} → statement M
-replay-part-spec =
-    tie.close (tie.spec in-range-requires returns returns-2 returns-3 replay-from-requires returns-4)
+replay-part-spec = tie.close (tie.spec tried-requires enum-told replay-from-requires enum-known-tried returns returns-2)
