@@ -34,26 +34,10 @@ pub fn first_in(c: Control, byte: u8) -> Step
         Command::Dcram(address) => kept(show_from(c, address)),
         Command::Cgram(address) => kept(draw_from(c, address)),
         Command::Adram(address) => kept(mark_from(c, address)),
-        Command::Port(port) => kept(Control {
-            port: Standing::Known(port),
-            position: Standing::Known(IGNORING),
-            ..c
-        }),
-        Command::Duty(duty) => kept(Control {
-            duty: Standing::Known(duty),
-            position: Standing::Known(IGNORING),
-            ..c
-        }),
-        Command::Digits(digits) => kept(Control {
-            digits: Standing::Known(digits),
-            position: Standing::Known(IGNORING),
-            ..c
-        }),
-        Command::Light(lights) => kept(Control {
-            lights: Standing::Known(lights_number(lights)),
-            position: Standing::Known(IGNORING),
-            ..c
-        }),
+        Command::Port(port) => kept(port_set(c, port)),
+        Command::Duty(duty) => kept(duty_set(c, duty)),
+        Command::Digits(digits) => kept(digits_set(c, digits)),
+        Command::Light(lights) => kept(lights_set(c, lights)),
         Command::Nothing => kept(at(c, IGNORING)),
         Command::Undefined => forgotten(at(no_control(), IGNORING)),
     }
@@ -86,6 +70,47 @@ fn mark_from(c: Control, address: Address) -> Control
     Control {
         adram_at: Pointing::At(address),
         position: Standing::Known(ADRAM),
+        ..c
+    }
+}
+
+fn port_set(c: Control, port: u8) -> Control
+    ensures { λ r. ⌜ Keeps (gives (commanded (Command.Port port))) c r ⌝ }
+{
+    Control {
+        port: Standing::Known(port),
+        position: Standing::Known(IGNORING),
+        ..c
+    }
+}
+
+fn duty_set(c: Control, duty: u8) -> Control
+    ensures { λ r. ⌜ Keeps (gives (commanded (Command.Duty duty))) c r ⌝ }
+{
+    Control {
+        duty: Standing::Known(duty),
+        position: Standing::Known(IGNORING),
+        ..c
+    }
+}
+
+fn digits_set(c: Control, digits: u8) -> Control
+    ensures { λ r. ⌜ Keeps (gives (commanded (Command.Digits digits))) c r ⌝ }
+{
+    Control {
+        digits: Standing::Known(digits),
+        position: Standing::Known(IGNORING),
+        ..c
+    }
+}
+
+fn lights_set(c: Control, lights: Lights) -> Control
+    ensures { λ r. ⌜ Keeps (gives (commanded (Command.Light lights))) c r ⌝ }
+{
+    let number = lights_number(lights);
+    Control {
+        lights: Standing::Known(number),
+        position: Standing::Known(IGNORING),
         ..c
     }
 }

@@ -44,39 +44,61 @@ pub fn first_in(family: Family, c: Control, byte: u8) -> Step
     match command {
         Command::Mode(code) => kept(to_mode(family, c, code)),
         Command::Test => forgotten(in_test(family, c)),
-        Command::Setting(data, stepping) => kept(at(
-            Control {
-                data: Standing::Known(data_number(data)),
-                stepping: Standing::Known(step_number(stepping)),
-                count: Standing::Known(0),
-                ..c
-            },
-            OPEN,
-        )),
-        Command::AnySetting(stepping) => kept(at(
-            Control {
-                data: Standing::Unknown,
-                stepping: Standing::Known(step_number(stepping)),
-                count: Standing::Known(0),
-                ..c
-            },
-            OPEN,
-        )),
-        Command::Control(dimming, display) => kept(at(
-            Control {
-                dimming: Standing::Known(dimming),
-                display: Standing::Known(display_number(display)),
-                ..c
-            },
-            IGNORING,
-        )),
-        Command::Start(address) => kept(at(
-            Control {
-                address: known_pointing(address),
-                ..c
-            },
-            OPEN,
-        )),
+        Command::Setting(data, stepping) => kept(data_set(family, c, data, stepping)),
+        Command::AnySetting(stepping) => kept(stepping_set(family, c, stepping)),
+        Command::Control(dimming, display) => kept(display_set(family, c, dimming, display)),
+        Command::Start(address) => kept(address_set(family, c, address)),
+    }
+}
+
+fn data_set(family: Family, c: Control, data: Data, stepping: Stepping) -> Control
+    ensures { λ r. ⌜ Keeps (sizes family) (commanded (Command.Setting «data» stepping)) c r ⌝ }
+{
+    let mode = data_number(data);
+    let step = step_number(stepping);
+    Control {
+        data: Standing::Known(mode),
+        stepping: Standing::Known(step),
+        count: Standing::Known(0),
+        position: Standing::Known(OPEN),
+        ..c
+    }
+}
+
+// The data mode is anything.
+fn stepping_set(family: Family, c: Control, stepping: Stepping) -> Control
+    ensures { λ r. ⌜ Keeps (sizes family) (commanded (Command.AnySetting stepping)) c r ⌝ }
+{
+    let step = step_number(stepping);
+    Control {
+        data: Standing::Unknown,
+        stepping: Standing::Known(step),
+        count: Standing::Known(0),
+        position: Standing::Known(OPEN),
+        ..c
+    }
+}
+
+fn display_set(family: Family, c: Control, dimming: u8, display: Display) -> Control
+    ensures { λ r. ⌜ Keeps (sizes family) (commanded (Command.Control dimming display)) c r ⌝ }
+{
+    let shown = display_number(display);
+    Control {
+        dimming: Standing::Known(dimming),
+        display: Standing::Known(shown),
+        position: Standing::Known(IGNORING),
+        ..c
+    }
+}
+
+fn address_set(family: Family, c: Control, to: Pointer) -> Control
+    ensures { λ r. ⌜ Keeps (sizes family) (commanded (Command.Start to)) c r ⌝ }
+{
+    let address = known_pointing(to);
+    Control {
+        address,
+        position: Standing::Known(OPEN),
+        ..c
     }
 }
 

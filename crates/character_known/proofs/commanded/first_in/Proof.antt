@@ -1,7 +1,6 @@
 -- `character_known::commanded::first_in` meets its contract: each command goes by its rule.
 -- Assumes nothing.
 use mathlib.Core.Path.{refl, sym, ap, _∙_}
-use Rattle.knowing.specs.Standing.{known}
 use Rattle.knowing.specs.Ways.{learnt}
 use Rattle.rules.specs.Rule.{gives}
 use Rattle.character.specs.Fact.{same?, dcramAt, cgramAt, adramAt, column, port, duty, digits, lights, position}
@@ -46,11 +45,17 @@ kept-requires-3 c κs = search needs
 enum-known-command-4 : tie.Need-enum-known-command-4
 enum-known-command-4 c = search needs
 
+port-set-requires : tie.Need-port-set-requires
+port-set-requires c κs = search needs
+
 kept-requires-4 : tie.Need-kept-requires-4
 kept-requires-4 c κs = search needs
 
 enum-known-command-5 : tie.Need-enum-known-command-5
 enum-known-command-5 c = search needs
+
+duty-set-requires : tie.Need-duty-set-requires
+duty-set-requires c κs = search needs
 
 kept-requires-5 : tie.Need-kept-requires-5
 kept-requires-5 c κs = search needs
@@ -58,14 +63,17 @@ kept-requires-5 c κs = search needs
 enum-known-command-6 : tie.Need-enum-known-command-6
 enum-known-command-6 c = search needs
 
+digits-set-requires : tie.Need-digits-set-requires
+digits-set-requires c κs = search needs
+
 kept-requires-6 : tie.Need-kept-requires-6
 kept-requires-6 c κs = search needs
 
 enum-known-command-7 : tie.Need-enum-known-command-7
 enum-known-command-7 c = search needs
 
-lights-number-requires : tie.Need-lights-number-requires
-lights-number-requires c κs = search needs
+lights-set-requires : tie.Need-lights-set-requires
+lights-set-requires c κs = search needs
 
 kept-requires-7 : tie.Need-kept-requires-7
 kept-requires-7 c κs = search needs
@@ -101,16 +109,16 @@ returns-3 : tie.Need-returns-3
 returns-3 c = (same-rule (ap (λ x. gives (commanded x)) (sym (c .before .before .before .before .before .command-of .ensures) ∙ c .before .before .before .command3 .given .1)) (kept-steps (c .kept3 .ensures) (c .before .mark-from .ensures)), kept-plain (c .kept3 .ensures))
 
 returns-4 : tie.Need-returns-4
-returns-4 c = (same-rule (ap (λ x. gives (commanded x)) (sym (c .before .before .before .before .command-of .ensures) ∙ c .before .before .command4 .given .1)) (kept-steps (c .kept4 .ensures) (λ m. every _ (λ i. refl) (λ i. refl) (λ i. refl) refl refl refl refl refl refl refl refl refl)), kept-plain (c .kept4 .ensures))
+returns-4 c = (same-rule (ap (λ x. gives (commanded x)) (sym (c .before .before .before .before .before .command-of .ensures) ∙ c .before .before .before .command4 .given .1)) (kept-steps (c .kept4 .ensures) (c .before .port-set .ensures)), kept-plain (c .kept4 .ensures))
 
 returns-5 : tie.Need-returns-5
-returns-5 c = (same-rule (ap (λ x. gives (commanded x)) (sym (c .before .before .before .before .command-of .ensures) ∙ c .before .before .command5 .given .1)) (kept-steps (c .kept5 .ensures) (λ m. every _ (λ i. refl) (λ i. refl) (λ i. refl) refl refl refl refl refl refl refl refl refl)), kept-plain (c .kept5 .ensures))
+returns-5 c = (same-rule (ap (λ x. gives (commanded x)) (sym (c .before .before .before .before .before .command-of .ensures) ∙ c .before .before .before .command5 .given .1)) (kept-steps (c .kept5 .ensures) (c .before .duty-set .ensures)), kept-plain (c .kept5 .ensures))
 
 returns-6 : tie.Need-returns-6
-returns-6 c = (same-rule (ap (λ x. gives (commanded x)) (sym (c .before .before .before .before .command-of .ensures) ∙ c .before .before .command6 .given .1)) (kept-steps (c .kept6 .ensures) (λ m. every _ (λ i. refl) (λ i. refl) (λ i. refl) refl refl refl refl refl refl refl refl refl)), kept-plain (c .kept6 .ensures))
+returns-6 c = (same-rule (ap (λ x. gives (commanded x)) (sym (c .before .before .before .before .before .command-of .ensures) ∙ c .before .before .before .command6 .given .1)) (kept-steps (c .kept6 .ensures) (c .before .digits-set .ensures)), kept-plain (c .kept6 .ensures))
 
 returns-7 : tie.Need-returns-7
-returns-7 c = (same-rule (ap (λ x. gives (commanded x)) (sym (c .before .before .before .before .before .command-of .ensures) ∙ c .before .before .before .command7 .given .1)) (kept-steps (c .kept7 .ensures) (λ m. every _ (λ i. refl) (λ i. refl) (λ i. refl) refl refl refl refl refl refl refl (ap known (c .before .lights-number .ensures)) refl)), kept-plain (c .kept7 .ensures))
+returns-7 c = (same-rule (ap (λ x. gives (commanded x)) (sym (c .before .before .before .before .before .command-of .ensures) ∙ c .before .before .before .command7 .given .1)) (kept-steps (c .kept7 .ensures) (c .before .lights-set .ensures)), kept-plain (c .kept7 .ensures))
 
 returns-8 : tie.Need-returns-8
 returns-8 c = (same-rule (ap (λ x. gives (commanded x)) (sym (c .before .before .before .before .command-of .ensures) ∙ c .before .before .enum-told .given .1)) (kept-steps (c .kept8 .ensures) (λ m. learnt (cview m) same? _ _ position 5 (c .before .at .ensures m))), kept-plain (c .kept8 .ensures))
@@ -138,13 +146,16 @@ first-in-spec =
     mark-from-requires
     kept-requires-3
     enum-known-command-4
+    port-set-requires
     kept-requires-4
     enum-known-command-5
+    duty-set-requires
     kept-requires-5
     enum-known-command-6
+    digits-set-requires
     kept-requires-6
     enum-known-command-7
-    lights-number-requires
+    lights-set-requires
     kept-requires-7
     enum-told
     at-requires

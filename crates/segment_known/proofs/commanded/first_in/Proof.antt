@@ -1,11 +1,10 @@
 -- `segment_known::commanded::first_in` meets its contract: each arm knows the command, and keeps the cells or forgets them.
 -- Assumes nothing.
 use mathlib.Core.Path.{sym, ap, _∙_, subst⁻¹}
-use Rattle.knowing.specs.Standing.{known, unknown}
+use Rattle.knowing.specs.Standing.{unknown}
 use Rattle.knowing.specs.Ways.{as-rule}
-use Rattle.segment.specs.Fact.{same?, range, cell, address, dataMode, stepping, mode, dimming, display, led, key, switches, readCount, position}
+use Rattle.segment.specs.Fact.{same?, range}
 use Rattle.segment.specs.Family.{sizes}
-use Rattle.segment.specs.Laws.{every}
 use Rattle.segment.specs.Move.{commanded}
 use Rattle.segment_knowledge.specs.View.{cview}
 use Rattle.segment_steps.specs.declared.steps.Step.{Step}
@@ -41,14 +40,8 @@ forgotten-requires c κs = search needs
 enum-known-command-2 : tie.Need-enum-known-command-2
 enum-known-command-2 c = search needs
 
-data-number-requires : tie.Need-data-number-requires
-data-number-requires c κs = search needs
-
-step-number-requires : tie.Need-step-number-requires
-step-number-requires c κs = search needs
-
-at-requires : tie.Need-at-requires
-at-requires c κs = search needs
+data-set-requires : tie.Need-data-set-requires
+data-set-requires c κs = search needs
 
 kept-requires-2 : tie.Need-kept-requires-2
 kept-requires-2 c κs = search needs
@@ -56,11 +49,8 @@ kept-requires-2 c κs = search needs
 enum-known-command-3 : tie.Need-enum-known-command-3
 enum-known-command-3 c = search needs
 
-step-number-requires-2 : tie.Need-step-number-requires-2
-step-number-requires-2 c κs = search needs
-
-at-requires-2 : tie.Need-at-requires-2
-at-requires-2 c κs = search needs
+stepping-set-requires : tie.Need-stepping-set-requires
+stepping-set-requires c κs = search needs
 
 kept-requires-3 : tie.Need-kept-requires-3
 kept-requires-3 c κs = search needs
@@ -68,11 +58,8 @@ kept-requires-3 c κs = search needs
 enum-known-command-4 : tie.Need-enum-known-command-4
 enum-known-command-4 c = search needs
 
-display-number-requires : tie.Need-display-number-requires
-display-number-requires c κs = search needs
-
-at-requires-3 : tie.Need-at-requires-3
-at-requires-3 c κs = search needs
+display-set-requires : tie.Need-display-set-requires
+display-set-requires c κs = search needs
 
 kept-requires-4 : tie.Need-kept-requires-4
 kept-requires-4 c κs = search needs
@@ -80,11 +67,8 @@ kept-requires-4 c κs = search needs
 enum-known-command-5 : tie.Need-enum-known-command-5
 enum-known-command-5 c = search needs
 
-known-pointing-requires : tie.Need-known-pointing-requires
-known-pointing-requires c κs = search needs
-
-at-requires-4 : tie.Need-at-requires-4
-at-requires-4 c κs = search needs
+address-set-requires : tie.Need-address-set-requires
+address-set-requires c κs = search needs
 
 kept-requires-5 : tie.Need-kept-requires-5
 kept-requires-5 c κs = search needs
@@ -104,30 +88,30 @@ returns-2 c = let a = c .before .before .before .before .before .args in
     )
 
 returns-3 : tie.Need-returns-3
-returns-3 c = let a = c .before .before .before .before .before .before .before .before .before .args in
+returns-3 c = let a = c .before .before .before .before .before .before .args in
     let s = sizes (a .family) in (
-      kept-steps (c .kept2 .ensures) (λ cells. as-rule (cview cells) (cview cells) same? (range s) _ _ (a .c) _ (ap commanded (sym (c .before .before .before .before .before .before .before .before .command-of .ensures) ∙ c .before .before .before .before .before .before .command2 .given .1)) (let e = c .before .at .ensures cells in every _ (λ i. e (cell i)) (e address) (e dataMode ∙ ap known (c .before .before .before .before .data-number .ensures)) (e stepping ∙ ap known (c .before .before .before .step-number .ensures)) (e mode) (e dimming) (e display) (e led) (λ i. e (key i)) (e switches) (e readCount) (e position))),
+      kept-steps (c .kept2 .ensures) (λ cells. as-rule (cview cells) (cview cells) same? (range s) _ _ (a .c) _ (ap commanded (sym (c .before .before .before .before .before .command-of .ensures) ∙ c .before .before .before .command2 .given .1)) (c .before .data-set .ensures cells)),
       subst⁻¹ (λ (x : Step). Plain (x .change)) (c .kept2 .ensures) tt,
     )
 
 returns-4 : tie.Need-returns-4
-returns-4 c = let a = c .before .before .before .before .before .before .before .before .args in
+returns-4 c = let a = c .before .before .before .before .before .before .args in
     let s = sizes (a .family) in (
-      kept-steps (c .kept3 .ensures) (λ cells. as-rule (cview cells) (cview cells) same? (range s) _ _ (a .c) _ (ap commanded (sym (c .before .before .before .before .before .before .before .command-of .ensures) ∙ c .before .before .before .before .before .command3 .given .1)) (let e = c .before .at2 .ensures cells in every _ (λ i. e (cell i)) (e address) (e dataMode) (e stepping ∙ ap known (c .before .before .before .step-number2 .ensures)) (e mode) (e dimming) (e display) (e led) (λ i. e (key i)) (e switches) (e readCount) (e position))),
+      kept-steps (c .kept3 .ensures) (λ cells. as-rule (cview cells) (cview cells) same? (range s) _ _ (a .c) _ (ap commanded (sym (c .before .before .before .before .before .command-of .ensures) ∙ c .before .before .before .command3 .given .1)) (c .before .stepping-set .ensures cells)),
       subst⁻¹ (λ (x : Step). Plain (x .change)) (c .kept3 .ensures) tt,
     )
 
 returns-5 : tie.Need-returns-5
-returns-5 c = let a = c .before .before .before .before .before .before .before .before .args in
+returns-5 c = let a = c .before .before .before .before .before .before .args in
     let s = sizes (a .family) in (
-      kept-steps (c .kept4 .ensures) (λ cells. as-rule (cview cells) (cview cells) same? (range s) _ _ (a .c) _ (ap commanded (sym (c .before .before .before .before .before .before .before .command-of .ensures) ∙ c .before .before .before .before .before .command4 .given .1)) (let e = c .before .at3 .ensures cells in every _ (λ i. e (cell i)) (e address) (e dataMode) (e stepping) (e mode) (e dimming) (e display ∙ ap known (c .before .before .before .display-number .ensures)) (e led) (λ i. e (key i)) (e switches) (e readCount) (e position))),
+      kept-steps (c .kept4 .ensures) (λ cells. as-rule (cview cells) (cview cells) same? (range s) _ _ (a .c) _ (ap commanded (sym (c .before .before .before .before .before .command-of .ensures) ∙ c .before .before .before .command4 .given .1)) (c .before .display-set .ensures cells)),
       subst⁻¹ (λ (x : Step). Plain (x .change)) (c .kept4 .ensures) tt,
     )
 
 returns-6 : tie.Need-returns-6
-returns-6 c = let a = c .before .before .before .before .before .before .before .before .args in
+returns-6 c = let a = c .before .before .before .before .before .before .args in
     let s = sizes (a .family) in (
-      kept-steps (c .kept5 .ensures) (λ cells. as-rule (cview cells) (cview cells) same? (range s) _ _ (a .c) _ (ap commanded (sym (c .before .before .before .before .before .before .before .command-of .ensures) ∙ c .before .before .before .before .before .command5 .given .1)) (let e = c .before .at4 .ensures cells in every _ (λ i. e (cell i)) (e address ∙ c .before .before .before .known-pointing .ensures) (e dataMode) (e stepping) (e mode) (e dimming) (e display) (e led) (λ i. e (key i)) (e switches) (e readCount) (e position))),
+      kept-steps (c .kept5 .ensures) (λ cells. as-rule (cview cells) (cview cells) same? (range s) _ _ (a .c) _ (ap commanded (sym (c .before .before .before .before .before .command-of .ensures) ∙ c .before .before .before .command5 .given .1)) (c .before .address-set .ensures cells)),
       subst⁻¹ (λ (x : Step). Plain (x .change)) (c .kept5 .ensures) tt,
     )
 
@@ -143,21 +127,16 @@ first-in-spec =
     in-test-requires
     forgotten-requires
     enum-known-command-2
-    data-number-requires
-    step-number-requires
-    at-requires
+    data-set-requires
     kept-requires-2
     enum-known-command-3
-    step-number-requires-2
-    at-requires-2
+    stepping-set-requires
     kept-requires-3
     enum-known-command-4
-    display-number-requires
-    at-requires-3
+    display-set-requires
     kept-requires-4
     enum-known-command-5
-    known-pointing-requires
-    at-requires-4
+    address-set-requires
     kept-requires-5
     returns
     returns-2
