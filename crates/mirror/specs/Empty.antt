@@ -5,9 +5,10 @@ use native.Mathlib.Omega.{arith}
 use mathlib.Core.Path.{sym, subst}
 use mathlib.Core.List.{List, []}
 use Rattle.terms.specs.Part.{partOf}
+use Rattle.mirror_input.specs.Input.{partByte, behind}
 use Rattle.page.specs.Page.{refusedAt, Prints}
 use Rattle.page.specs.Laws.{page-refused}
-use Rattle.mirror.specs.Mirror.{partByte, behind, Shows}
+use Rattle.mirror.specs.Mirror.{Shows}
 
 pub empty-refused : {out : List ℕ} {r : ℕ} {out′ : List ℕ} → Shows (partByte []) (behind []) out r out′ → Prints (refusedAt 1 0) out r out′
 empty-refused {out} {r} {out′} s =

@@ -1,23 +1,13 @@
 -- What the program makes of its input (paper 01, the last paragraph of "Examples"): "The program reads the part byte
 -- and a recording, starts knowing nothing, and prints."
 use Prim.Native.Nat.{ℕ}
-use mathlib.Core.List.{List, [], _∷_}
+use mathlib.Core.List.{List}
 use Rattle.terms.specs.Part.{partOf}
 use Rattle.panel.specs.declared.knowledge.Panel.{Panel}
 use Rattle.panel.specs.View.{KnowsNothing}
 use Rattle.replay_answer.specs.declared.answer.Replayed.{Replayed}
 use Rattle.replay_answer.specs.Replay.{Replays}
 use Rattle.page.specs.Page.{page, Prints}
-
--- The part byte of an input and the recording behind it. "Empty input prints refused 1 at 0": it counts as the part
--- byte 0, which names no part.
-abbrev pub partByte : List ℕ → ℕ
-partByte [] = 0
-partByte (byte ∷ rest) = byte
-
-abbrev pub behind : List ℕ → List ℕ
-behind [] = []
-behind (byte ∷ rest) = rest
 
 -- The replay of the whole recording by who knows nothing.
 pub record FromNothing (part : ℕ) (recording : List ℕ) (r : Replayed) : Type 0 where

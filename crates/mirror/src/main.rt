@@ -3,9 +3,12 @@
 use input::Input;
 use input::read_input;
 use libc::STDOUT_FILENO;
+use mirror_input::part_byte;
+use mirror_input::recording_of;
 use replay_answer::Replayed;
 use terms::Place;
-ghost use Rattle.mirror.specs.Mirror.{partByte, behind, FromNothing, Shows};
+ghost use Rattle.mirror_input.specs.Input.{partByte, behind};
+ghost use Rattle.mirror.specs.Mirror.{FromNothing, Shows};
 
 // The part byte, the longest recording that is allowed, and one byte more, which shows that a recording is too long.
 fn main() {
@@ -29,10 +32,7 @@ fn print(input: &[u8]) {
 fn mirrored(input: &[u8], out: &mut [u8]) -> usize
     ensures { λ r. ⌜ Shows (partByte (now (input .entry))) (behind (now (input .entry))) (now (out .entry)) r (now (out .exit)) ⌝ }
 {
-    if input.len() == 0 {
-        return shown(0, input, out);
-    }
-    shown(input[0], &input[1..], out)
+    shown(part_byte(input), recording_of(input), out)
 }
 
 fn shown(part: u8, recording: &[u8], out: &mut [u8]) -> usize

@@ -1,5 +1,5 @@
-// PT6312 and PT6315: one family, whose parts differ in a few numbers. Here are their facts as a value and the reading of a first byte
-// as a command; the rules in specs/ say what an event does to such a chip.
+// PT6312 and PT6315: one family, whose parts differ in a few numbers. Here are their facts and commands as values; the rules in
+// specs/ say what an event does to such a chip.
 mod chip;
 mod command;
 mod stepped;
@@ -17,5 +17,4 @@ pub use chip::Sent;
 pub use chip::Sizes;
 pub use chip::Stepping;
 pub use command::Command;
-pub use command::command_of;
 pub use stepped::behind;

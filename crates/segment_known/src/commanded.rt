@@ -5,7 +5,7 @@ use segment::Display;
 use segment::Family;
 use segment::Pointer;
 use segment::Stepping;
-use segment::command_of;
+use segment_first_byte::command_of;
 use segment_knowledge::Control;
 use segment_knowledge::FIXED;
 use segment_knowledge::IGNORING;

@@ -1,11 +1,11 @@
--- `segment::command::command_of` meets its contract: each arm knows the top two bits, and its callee reads the rest.
+-- `segment_first_byte::command_of` meets its contract: each arm knows the top two bits, and its callee reads the rest.
 -- Assumes nothing.
 use native.Mathlib.Omega.{arith}
 use Prim.Native.Nat.{_/_}
 use mathlib.Core.Path.{_≡_}
 use borrow.Author.Needs.{needs}
-use Rattle.segment.proofs.command.command_of.Statement.{statement}
-use Rattle.segment.proofs.command.command_of.Tie as tie
+use Rattle.segment_first_byte.proofs.command_of.Statement.{statement}
+use Rattle.segment_first_byte.proofs.command_of.Tie as tie
 
 mode-of-requires : tie.Need-mode-of-requires
 mode-of-requires c κs = search needs

@@ -1,10 +1,10 @@
--- `segment::command::pointer_of` meets its contract: each arm knows its part and whether the address is below the number of its cells.
+-- `segment_first_byte::pointer_of` meets its contract: each arm knows its part and whether the address is below the number of its cells.
 -- Assumes nothing.
 use Rattle.segment.specs.Family.{sizes}
 use borrow.Author.Tests.{lt-ltb, le-ltb}
 use borrow.Author.Needs.{needs}
-use Rattle.segment.proofs.command.pointer_of.Statement.{statement}
-use Rattle.segment.proofs.command.pointer_of.Tie as tie
+use Rattle.segment_first_byte.proofs.pointer_of.Statement.{statement}
+use Rattle.segment_first_byte.proofs.pointer_of.Tie as tie
 
 enum-told : tie.Need-enum-told
 enum-told c = search needs

@@ -1,13 +1,13 @@
--- `segment::command::setting_of` meets its contract: each arm knows bit 3, the low two bits and, for 11, the part.
+-- `segment_first_byte::setting_of` meets its contract: each arm knows bit 3, the low two bits and, for 11, the part.
 -- Assumes nothing.
 use native.Mathlib.Omega.{arith}
 use Prim.Native.Nat.{_%_}
 use mathlib.Core.Path.{_≡_}
 use Rattle.segment.specs.Family.{sizes}
 use borrow.Author.Tests.{eq-eqb, ne-eqb}
 use borrow.Author.Needs.{needs}
-use Rattle.segment.proofs.command.setting_of.Statement.{statement}
-use Rattle.segment.proofs.command.setting_of.Tie as tie
+use Rattle.segment_first_byte.proofs.setting_of.Statement.{statement}
+use Rattle.segment_first_byte.proofs.setting_of.Tie as tie
 
 stepping-of-requires : tie.Need-stepping-of-requires
 stepping-of-requires c κs = search needs

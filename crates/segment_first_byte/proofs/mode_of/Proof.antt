@@ -1,10 +1,10 @@
--- `segment::command::mode_of` meets its contract: each arm knows its part, and the rest is arithmetic.
+-- `segment_first_byte::mode_of` meets its contract: each arm knows its part, and the rest is arithmetic.
 -- Assumes nothing.
 use Rattle.segment.specs.Family.{sizes}
 use native.Mathlib.Omega.{arith}
 use borrow.Author.Needs.{needs}
-use Rattle.segment.proofs.command.mode_of.Statement.{statement}
-use Rattle.segment.proofs.command.mode_of.Tie as tie
+use Rattle.segment_first_byte.proofs.mode_of.Statement.{statement}
+use Rattle.segment_first_byte.proofs.mode_of.Tie as tie
 
 enum-told : tie.Need-enum-told
 enum-told c = search needs
