@@ -14,26 +14,9 @@ use Rattle.recording.specs.declared.read.Read.the-variants as Reads
 use Rattle.recording.specs.Record as Record
 use Rattle.recording.specs.Record.{front}
 use Rattle.panel.specs.declared.knowledge.Panel.{Panel}
-use Rattle.hearing.specs.declared.events.Answer.{Answer}
-use Rattle.hearing.specs.declared.events.Answer.the-variants.{Done, NoPart, OutOfRange, Foreign, Forbidden}
+use Rattle.hearing_answer.specs.Answer.{number, place}
 use Rattle.hearing.specs.declared.events.Heard.{Heard}
 use Rattle.panel.specs.View.{knownOf, OtherKept, Where}
-
--- Paper 01's number for each case, and its place: one event is no recording, so that there is no length to give, and
--- every place is 0.
-abbrev pub number : Answer → ℕ
-number Done = 0
-number (NoPart at) = 1
-number (OutOfRange at) = 2
-number (Foreign at) = 6
-number (Forbidden at) = 8
-
-abbrev pub place : Answer → ℕ
-place Done = 0
-place (NoPart at) = at .0
-place (OutOfRange at) = at .0
-place (Foreign at) = at .0
-place (Forbidden at) = at .0
 
 -- Refused with the number n, at place 0: the knowledge comes back as handed in.
 pub record RefusedBy (n : ℕ) (k : Panel) (r : Heard) : Type 0 where

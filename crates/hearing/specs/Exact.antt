@@ -27,7 +27,8 @@ use Rattle.carrying.specs.Again.{read-again}
 use Rattle.panel.specs.declared.knowledge.Panel.{Panel}
 use Rattle.hearing.specs.declared.events.Heard.{Heard}
 use Rattle.panel.specs.View.{knownOf, good, bad}
-use Rattle.hearing.specs.Event.{number, EventDone, AsRecord, HearsPart, Hears}
+use Rattle.hearing_answer.specs.Answer.{number}
+use Rattle.hearing.specs.Event.{EventDone, AsRecord, HearsPart, Hears}
 use Rattle.hearing.specs.Laws.{hears-as, record-as}
 
 never-0 : (x : Refusal) → Record.number x ≡ 0 → ⊥

@@ -16,12 +16,13 @@ use Rattle.recording.specs.declared.read.Read.the-variants as Reads
 use Rattle.recording.specs.Record as Record
 use Rattle.recording.specs.Record.{front}
 use Rattle.panel.specs.declared.knowledge.Panel.{Panel}
-use Rattle.hearing.specs.declared.events.Answer.{Answer}
-use Rattle.hearing.specs.declared.events.Answer.the-variants as A
+use Rattle.hearing_answer.specs.declared.Answer.{Answer}
+use Rattle.hearing_answer.specs.declared.Answer.the-variants as A
 use Rattle.hearing.specs.declared.events.Heard.{Heard}
 use Rattle.panel.specs.Unique.{Shaped, same-panel}
 use Rattle.panel.specs.View.{good, bad}
-use Rattle.hearing.specs.Event.{number, place, RefusedBy, EventDone, AsRecord, HearsPart, Hears}
+use Rattle.hearing_answer.specs.Answer.{number, place}
+use Rattle.hearing.specs.Event.{RefusedBy, EventDone, AsRecord, HearsPart, Hears}
 
 -- The answer with a number and a place, and that every answer is the one with its own.
 abbrev back : ℕ → Place → Answer

@@ -2,6 +2,6 @@
 mod events;
 mod halves;
 
-pub use events::Answer;
 pub use events::Heard;
 pub use events::hear;
+pub use hearing_answer::Answer;
