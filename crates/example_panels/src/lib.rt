@@ -12,5 +12,7 @@ mod tells;
 pub use known::show_known;
 pub use starts::known_characters;
 pub use starts::known_segments;
+pub use starts::start_characters;
+pub use starts::start_segments;
 pub use tell_characters::told_characters;
 pub use tell_segments::told_segments;

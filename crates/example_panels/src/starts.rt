@@ -1,4 +1,7 @@
 // What examples start from: a panel in the middle of writing, with a value that shows in every fact.
+use crate::tell_characters::told_characters;
+use crate::tell_segments::told_segments;
+use example_text::Word;
 use standing::Standing;
 use terms::Address;
 
@@ -39,5 +42,41 @@ pub fn known_characters() -> character_knowledge::Knowledge {
             lights: Standing::Known(character_knowledge::ON),
             position: Standing::Known(character_knowledge::DCRAM),
         },
+    }
+}
+
+// What is known of such a panel at the start of a replay: nothing or everything, and then an LED that is out of range.
+pub fn start_segments(known: bool, led: bool) -> segment_knowledge::Knowledge {
+    let k = if known {
+        known_segments()
+    } else {
+        segment_knowledge::nothing_known()
+    };
+    if led {
+        told_segments(k, telling(b'l', 16))
+    } else {
+        k
+    }
+}
+
+// The same for PT6302, and then a port that is out of range.
+pub fn start_characters(known: bool, port: bool) -> character_knowledge::Knowledge {
+    let k = if known {
+        known_characters()
+    } else {
+        character_knowledge::nothing_known()
+    };
+    if port {
+        told_characters(k, telling(b'o', 4))
+    } else {
+        k
+    }
+}
+
+fn telling(name: u8, number: usize) -> Word {
+    Word {
+        name,
+        at: 0,
+        number,
     }
 }

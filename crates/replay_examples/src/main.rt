@@ -15,11 +15,11 @@
 // facts only the known ones are there. Where the part byte names no part, or one of the last three words stands in the line, both halves of the
 // knowledge are shown, so that one sees what a refusal leaves as it was.
 mod answers;
-mod example;
-mod memory;
+mod ended;
 mod starts;
 
-use example::Example;
+use ended::ended;
+use example_recordings::Example;
 use example_text::Word;
 use example_text::character;
 use input::Input;
@@ -50,7 +50,7 @@ fn run(examples: &[u8], memory: &mut [u8]) {
         let c = examples[i];
         i += 1;
         example = example.with(word, c, memory);
-        example = example.ended(c, memory);
+        example = ended(example, c, memory);
         word = word.after(c);
         character(c);
     }

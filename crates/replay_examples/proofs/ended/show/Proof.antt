@@ -1,10 +1,10 @@
--- `example::Example::show` meets its contract, which says nothing: the recording is no longer than the memory that it stands in.
+-- `ended::show` meets its contract, which says nothing: the recording is no longer than the memory that it stands in.
 -- Assumes nothing.
 use native.Mathlib.Omega.{arith}
 use lib.ListN.{length-take}
 use borrow.Author.Needs.{needs}
-use Rattle.replay_examples.proofs.example.Example.show.Statement.{statement}
-use Rattle.replay_examples.proofs.example.Example.show.Tie as tie
+use Rattle.replay_examples.proofs.ended.show.Statement.{statement}
+use Rattle.replay_examples.proofs.ended.show.Tie as tie
 
 slice-aggregate-run : tie.Need-slice-aggregate-run
 slice-aggregate-run c = simp length-take (omega arith)

@@ -1,25 +1,19 @@
 // An example: its part byte, how far its recording goes, which stands in lent memory, and how the replay starts.
-use crate::answers;
 use crate::memory::put;
-use crate::starts;
-use example_panels::show_known;
 use example_text::Word;
-use panel::Panel;
-use replay_answer::Replayed;
-use terms::Place;
 
 pub struct Example {
-    part: u8,
+    pub part: u8,
     // Whether the part byte was read, and whether the line is a remark.
     begun: bool,
-    remark: bool,
+    pub remark: bool,
     // How many bytes the recording has so far, and how many it had at the last mark.
-    length: usize,
+    pub length: usize,
     mark: usize,
-    start: usize,
-    known: bool,
-    led: bool,
-    port: bool,
+    pub start: usize,
+    pub known: bool,
+    pub led: bool,
+    pub port: bool,
 }
 
 impl Example {
@@ -48,17 +42,6 @@ impl Example {
         let length = put(memory, self.mark, self.length, word);
         self.length = length;
         self.told(word)
-    }
-
-    // A line that is not a remark is run where it ends.
-    pub fn ended(self, c: u8, memory: &[u8]) -> Example {
-        if c != b'\n' {
-            return self;
-        }
-        if !self.remark {
-            self.show(memory);
-        }
-        Example::new()
     }
 
     fn told(mut self, word: Word) -> Example {
@@ -99,31 +82,8 @@ impl Example {
         self
     }
 
-    fn show(self, memory: &[u8]) {
-        let length = self.length;
-        if length <= memory.len() {
-            self.run(&memory[..length]);
-        }
-    }
-
-    fn run(self, recording: &[u8]) {
-        let before = starts::panel(self.known, self.led, self.port);
-        let replayed = replays(self.part, before, recording, self.start);
-        let answer = replayed.answer;
-        answers::replayed(answer);
-        let after = replayed.panel;
-        show_known(
-            self.part,
-            after.segment,
-            after.character,
-            self.worded(),
-            false,
-        );
-        answers::tail(self.part, recording);
-    }
-
     // Whether the line says what is known before: then both halves are shown.
-    fn worded(self) -> bool {
+    pub fn worded(self) -> bool {
         if self.known {
             return true;
         }
@@ -132,8 +92,4 @@ impl Example {
         }
         self.port
     }
-}
-
-fn replays(part: u8, before: Panel, recording: &[u8], start: usize) -> Replayed {
-    replay::replay(part, before, recording, Place(start))
 }
