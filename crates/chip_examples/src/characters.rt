@@ -6,6 +6,7 @@ use character::Lights;
 use character::Moved;
 use character::Position;
 use example_text::Line;
+use example_text::part;
 use example_text::text;
 use terms::Address;
 
@@ -81,22 +82,28 @@ fn forty(cells: [u8; 40], before: u8) {
 }
 
 fn lights(lights: Lights) {
-    match lights {
-        Lights::Normal => text(b", normal"),
-        Lights::Off => text(b", off"),
-        Lights::On => text(b", on"),
-    }
+    let n = match lights {
+        Lights::Normal => 0,
+        Lights::Off => 1,
+        Lights::On => 2,
+    };
+    text(part(b", normal/, off/, on", b'/', n));
 }
 
 fn position(position: Position) {
-    match position {
-        Position::Idle => text(b", idle"),
-        Position::First => text(b", first byte"),
-        Position::Dcram => text(b", to DCRAM"),
-        Position::Cgram => text(b", to CGRAM"),
-        Position::Adram => text(b", to ADRAM"),
-        Position::Ignoring => text(b", ignoring"),
-    }
+    let n = match position {
+        Position::Idle => 0,
+        Position::First => 1,
+        Position::Dcram => 2,
+        Position::Cgram => 3,
+        Position::Adram => 4,
+        Position::Ignoring => 5,
+    };
+    text(part(
+        b", idle/, first byte/, to DCRAM/, to CGRAM/, to ADRAM/, ignoring",
+        b'/',
+        n,
+    ));
 }
 
 fn anything(any: Anything) {

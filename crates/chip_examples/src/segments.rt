@@ -1,6 +1,7 @@
 // PT6312 and PT6315.
 use crate::print;
 use example_text::Line;
+use example_text::part;
 use example_text::text;
 use segment::Anything;
 use segment::Data;
@@ -87,12 +88,17 @@ fn address(address: Pointer) {
 }
 
 fn data(data: Data) {
-    match data {
-        Data::WriteDisplay => text(b", write display"),
-        Data::WriteLed => text(b", write LED"),
-        Data::ReadKeys => text(b", read keys"),
-        Data::ReadSwitches => text(b", read switches"),
-    }
+    let n = match data {
+        Data::WriteDisplay => 0,
+        Data::WriteLed => 1,
+        Data::ReadKeys => 2,
+        Data::ReadSwitches => 3,
+    };
+    text(part(
+        b", write display/, write LED/, read keys/, read switches",
+        b'/',
+        n,
+    ));
 }
 
 fn stepping(stepping: Stepping) {
@@ -110,12 +116,13 @@ fn display(display: Display) {
 }
 
 fn position(position: Position) {
-    match position {
-        Position::Idle => text(b", idle"),
-        Position::First => text(b", first byte"),
-        Position::Open => text(b", open"),
-        Position::Ignoring => text(b", ignoring"),
-    }
+    let n = match position {
+        Position::Idle => 0,
+        Position::First => 1,
+        Position::Open => 2,
+        Position::Ignoring => 3,
+    };
+    text(part(b", idle/, first byte/, open/, ignoring", b'/', n));
 }
 
 fn anything(any: Anything) {

@@ -1,9 +1,9 @@
 // Examples of painting: each prints its answer and the whole output, which held EE before, and is compared with the file stdout, whose
 // values are from paper 01.
 use character::Lights;
+use example_text::bytes;
 use example_text::number;
 use example_text::text;
-use libc::STDOUT_FILENO;
 use painting::CharacterPicture;
 use painting::Painted;
 use painting::Picture;
@@ -112,16 +112,16 @@ fn rooms() {
 }
 
 fn segments() {
-    show(b"mode 8 on PT6312\n", 0x12, with_mode(8), 3);
-    show(b"LED 16\n", 0x15, with_led(16), 3);
-    show(b"dimming 8\n", 0x15, with_dimming(8), 3);
+    show(b"mode 8 on PT6312\n", 0x12, with_segment(8, 0, 15), 3);
+    show(b"LED 16\n", 0x15, with_segment(7, 0, 16), 3);
+    show(b"dimming 8\n", 0x15, with_segment(7, 8, 15), 3);
     modes();
 }
 
 fn modes() {
-    show(b"mode 9 on PT6315\n", 0x15, with_mode(9), 3);
-    show(b"room 93 on PT6315\n", 0x15, with_mode(8), 93);
-    show(b"mode 9 on no part\n", 0x13, with_mode(9), 3);
+    show(b"mode 9 on PT6315\n", 0x15, with_segment(9, 0, 15), 3);
+    show(b"room 93 on PT6315\n", 0x15, with_segment(8, 0, 15), 93);
+    show(b"mode 9 on no part\n", 0x13, with_segment(9, 0, 15), 3);
 }
 
 fn characters() {
@@ -132,13 +132,18 @@ fn characters() {
 }
 
 fn memories() {
-    show(b"a pair of 4\n", 0x02, with_pair(4), 3);
-    show(b"a column of 80\n", 0x02, with_column(0x80), 3);
+    show(b"a pair of 4\n", 0x02, with_memory(4, 0), 3);
+    show(b"a column of 80\n", 0x02, with_memory(0, 0x80), 3);
 }
 
-fn with_mode(mode: u8) -> Picture {
+fn with_segment(mode: u8, dimming: u8, led: u8) -> Picture {
     Picture {
-        segment: SegmentPicture { mode, ..blank() },
+        segment: SegmentPicture {
+            mode,
+            dimming,
+            led,
+            ..blank()
+        },
         character: spaces(),
     }
 }
@@ -155,35 +160,18 @@ fn with_settings(port: u8, duty: u8, digits: u8) -> Picture {
     }
 }
 
-fn with_led(led: u8) -> Picture {
-    Picture {
-        segment: SegmentPicture { led, ..blank() },
-        character: spaces(),
-    }
-}
-
-fn with_dimming(dimming: u8) -> Picture {
-    Picture {
-        segment: SegmentPicture { dimming, ..blank() },
-        character: spaces(),
-    }
-}
-
-fn with_pair(pair: u8) -> Picture {
+fn with_memory(pair: u8, column: u8) -> Picture {
     let mut adram = [0u8; 16];
     adram[15] = pair;
-    Picture {
-        segment: blank(),
-        character: CharacterPicture { adram, ..spaces() },
-    }
-}
-
-fn with_column(column: u8) -> Picture {
     let mut cgram = [0u8; 40];
     cgram[39] = column;
     Picture {
         segment: blank(),
-        character: CharacterPicture { cgram, ..spaces() },
+        character: CharacterPicture {
+            adram,
+            cgram,
+            ..spaces()
+        },
     }
 }
 
@@ -196,7 +184,7 @@ fn show(name: &[u8], part: u8, picture: Picture, room: u8) {
 
 fn painted(part: u8, picture: Picture, out: &mut [u8]) {
     answered(painter::paint(part, picture, out));
-    bytes(&out[..]);
+    bytes(&out[..], out.len());
     text(b"\n");
 }
 
@@ -214,17 +202,4 @@ fn at(answer: usize, place: usize) {
     number(b"  ", answer);
     number(b" at ", place);
     text(b":");
-}
-
-fn bytes(out: &[u8]) {
-    let mut i = 0;
-    while i < out.len() {
-        byte(out[i]);
-        i += 1;
-    }
-}
-
-fn byte(b: u8) {
-    text(b" ");
-    io::print_hex(STDOUT_FILENO, b as u64, 2);
 }
