@@ -35,9 +35,21 @@ pub fn commanded(chip: Character, command: Command) -> Moved
             },
             Position::Adram,
         ),
-        Command::Port(port) => at(Character { port, ..chip }, Position::Ignoring),
-        Command::Duty(duty) => at(Character { duty, ..chip }, Position::Ignoring),
-        Command::Digits(digits) => at(Character { digits, ..chip }, Position::Ignoring),
+        Command::Port(port) => {
+            let mut new = chip;
+            new.port = port;
+            at(new, Position::Ignoring)
+        }
+        Command::Duty(duty) => {
+            let mut new = chip;
+            new.duty = duty;
+            at(new, Position::Ignoring)
+        }
+        Command::Digits(digits) => {
+            let mut new = chip;
+            new.digits = digits;
+            at(new, Position::Ignoring)
+        }
         Command::Light(lights) => at(Character { lights, ..chip }, Position::Ignoring),
         Command::Nothing => at(chip, Position::Ignoring),
         Command::Undefined => left_open(chip),

@@ -70,13 +70,13 @@ returns-3 : tie.Need-returns-3
 returns-3 c = rw (c .before .before .before .before .before .before .before .command3 .given .1) (let h = c .at3 .ensures in every _ (λ i. h (dcram i)) (λ i. h (cgram i)) (λ i. h (adram i)) (h dcramAt) (h cgramAt) (h adramAt) (h column) (h port) (h duty) (h digits) (h lights) (h position))
 
 returns-4 : tie.Need-returns-4
-returns-4 c = rw (c .before .before .before .before .before .before .before .before .command4 .given .1) (let h = c .at4 .ensures in every _ (λ i. h (dcram i)) (λ i. h (cgram i)) (λ i. h (adram i)) (h dcramAt) (h cgramAt) (h adramAt) (h column) (h port) (h duty) (h digits) (h lights) (h position))
+returns-4 c = rw (c .before .before .command4 .given .1) (let h = c .at4 .ensures in every _ (λ i. h (dcram i)) (λ i. h (cgram i)) (λ i. h (adram i)) (h dcramAt) (h cgramAt) (h adramAt) (h column) (h port) (h duty) (h digits) (h lights) (h position))
 
 returns-5 : tie.Need-returns-5
-returns-5 c = rw (c .before .before .before .before .before .before .before .before .command5 .given .1) (let h = c .at5 .ensures in every _ (λ i. h (dcram i)) (λ i. h (cgram i)) (λ i. h (adram i)) (h dcramAt) (h cgramAt) (h adramAt) (h column) (h port) (h duty) (h digits) (h lights) (h position))
+returns-5 c = rw (c .before .before .command5 .given .1) (let h = c .at5 .ensures in every _ (λ i. h (dcram i)) (λ i. h (cgram i)) (λ i. h (adram i)) (h dcramAt) (h cgramAt) (h adramAt) (h column) (h port) (h duty) (h digits) (h lights) (h position))
 
 returns-6 : tie.Need-returns-6
-returns-6 c = rw (c .before .before .before .before .before .before .before .before .command6 .given .1) (let h = c .at6 .ensures in every _ (λ i. h (dcram i)) (λ i. h (cgram i)) (λ i. h (adram i)) (h dcramAt) (h cgramAt) (h adramAt) (h column) (h port) (h duty) (h digits) (h lights) (h position))
+returns-6 c = rw (c .before .before .command6 .given .1) (let h = c .at6 .ensures in every _ (λ i. h (dcram i)) (λ i. h (cgram i)) (λ i. h (adram i)) (h dcramAt) (h cgramAt) (h adramAt) (h column) (h port) (h duty) (h digits) (h lights) (h position))
 
 returns-7 : tie.Need-returns-7
 returns-7 c = rw (c .before .before .before .before .before .before .before .before .command7 .given .1) (let h = c .at7 .ensures in every _ (λ i. h (dcram i)) (λ i. h (cgram i)) (λ i. h (adram i)) (h dcramAt) (h cgramAt) (h adramAt) (h column) (h port) (h duty) (h digits) (h lights) (h position))
