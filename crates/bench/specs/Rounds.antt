@@ -6,8 +6,8 @@ use lib.ListN.{getD, drop}
 use Rattle.terms.specs.Part.{partOf}
 use Rattle.panel.specs.declared.knowledge.Panel.{Panel}
 use Rattle.panel.specs.View.{KnowsNothing}
-use Rattle.replay_answer.specs.declared.answer.Replayed.{Replayed}
-use Rattle.replay_answer.specs.Replay.{Replays}
+use Rattle.replay.specs.declared.replays.Replayed.{Replayed}
+use Rattle.replay.specs.Replay.{Replays}
 use Rattle.checksum.specs.Panels.{answerSum, partSum}
 
 -- One round: a replay from knowing nothing, whose answer and facts go into the checksum.

@@ -6,8 +6,8 @@ use Rattle.terms.specs.declared.PartRead.{PartRead}
 use Rattle.terms.specs.declared.PartRead.the-variants.{Is, Refused}
 use Rattle.segment.specs.declared.chip.Family.the-variants as OfFamily
 use Rattle.panel.specs.declared.knowledge.Panel.{Panel}
-use Rattle.replay_answer.specs.declared.answer.Answer.{Answer}
-use Rattle.replay_answer.specs.Answer.{number, place}
+use Rattle.answers.specs.declared.Answer.{Answer}
+use Rattle.answers.specs.Answer.{number, place}
 use Rattle.checksum.specs.Sum.{taken}
 use Rattle.checksum.specs.Characters.{characterSum}
 use Rattle.checksum.specs.Segments.{segmentSum}

@@ -2,9 +2,9 @@
 use crate::characters;
 use crate::segments;
 use crate::sum::Sum;
+use answers::Answer;
+use answers::told_of;
 use panel::Panel;
-use replay_answer::Answer;
-use replay_answer::told_of;
 use segment::Family;
 use terms::Part;
 ghost use mathlib.Core.Path.{_≡_};

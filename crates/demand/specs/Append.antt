@@ -19,9 +19,9 @@ use Rattle.recording.specs.Record as Record
 use Rattle.parts.specs.Facts.{Fact, same?, range, move}
 use Rattle.panel.specs.declared.knowledge.Panel.{Panel}
 use Rattle.panel.specs.View.{knownOf}
-use Rattle.replay_answer.specs.declared.answer.Replayed.{Replayed}
-use Rattle.replay_answer.specs.Answer.{number, place, RefusedBy}
-use Rattle.replay_answer.specs.Replay.{ByEnding, PartDone, Replays, ends-by}
+use Rattle.replay.specs.declared.replays.Replayed.{Replayed}
+use Rattle.answers.specs.Answer.{number, place}
+use Rattle.replay.specs.Replay.{RefusedBy, ByEnding, PartDone, Replays, ends-by}
 use Rattle.replay.specs.ByPart.{Acceptable, replays-by, accepted, passed, record-refused}
 
 module _ (b : ℕ) (p : Part) (named : partOf b ≡ Is p) (k : Panel) (l m : List ℕ) (r q s : Replayed)

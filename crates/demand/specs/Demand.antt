@@ -18,9 +18,9 @@ use Rattle.parts.specs.Facts.{Fact, same?, range, move}
 use Rattle.parts.specs.Laws.{two, ranged}
 use Rattle.panel.specs.declared.knowledge.Panel.{Panel}
 use Rattle.panel.specs.View.{knownOf}
-use Rattle.replay_answer.specs.declared.answer.Replayed.{Replayed}
-use Rattle.replay_answer.specs.Answer.{number, place}
-use Rattle.replay_answer.specs.Replay.{PartDone, Replays}
+use Rattle.replay.specs.declared.replays.Replayed.{Replayed}
+use Rattle.answers.specs.Answer.{number, place}
+use Rattle.replay.specs.Replay.{PartDone, Replays}
 use Rattle.replay.specs.ByPart.{Acceptable, replays-by, accepted, accepts}
 use Rattle.whole.specs.Turns.{Chain, KnowsAtLeast}
 use Rattle.whole.specs.Sentence.{position, StartKnows, hasGap, DefinedOn, NoUndefined, startsFirst, IsMemory, AllEnd}

@@ -26,9 +26,9 @@ use Rattle.painting.specs.Answer as Paint
 use Rattle.painter.specs.ByPart.{sizeFor, painting-length, paint-done, paint-front}
 use Rattle.panel.specs.declared.knowledge.Panel.{Panel}
 use Rattle.panel.specs.View.{knownOf, OtherKept}
-use Rattle.replay_answer.specs.declared.answer.Replayed.{Replayed}
-use Rattle.replay_answer.specs.Answer as Replay
-use Rattle.replay_answer.specs.Replay.{PartDone, Replays}
+use Rattle.replay.specs.declared.replays.Replayed.{Replayed}
+use Rattle.answers.specs.Answer as Replay
+use Rattle.replay.specs.Replay.{PartDone, Replays}
 use Rattle.replay.specs.ByPart.{replays-by, accepts}
 use Rattle.repainted.specs.Repainted.{repaintedBy}
 use Rattle.repainted.specs.ByPart.{painting-accepted, painting-repaints}

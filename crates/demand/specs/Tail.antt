@@ -25,10 +25,10 @@ use Rattle.recording.specs.Walk.{walked, events, endOf, behindGap}
 use Rattle.parts.specs.Facts.{Fact, same?, range, move}
 use Rattle.panel.specs.declared.knowledge.Panel.{Panel}
 use Rattle.panel.specs.View.{knownOf, KnowsNothing}
-use Rattle.replay_answer.specs.declared.answer.Replayed.{Replayed}
-use Rattle.replay_answer.specs.Answer.{number, place}
-use Rattle.replay_answer.specs.Laws.{part-from}
-use Rattle.replay_answer.specs.Replay.{PartDone, Replays}
+use Rattle.replay.specs.declared.replays.Replayed.{Replayed}
+use Rattle.answers.specs.Answer.{number, place}
+use Rattle.recording.specs.Laws.{part-from}
+use Rattle.replay.specs.Replay.{PartDone, Replays}
 use Rattle.replay.specs.ByPart.{Acceptable, replays-by, accepted, accepts}
 use Rattle.tail.specs.Tail.{foundBy, found, tailOf, partOfFound}
 use Rattle.tail.specs.declared.gaps.Found.{Found}

@@ -1,22 +1,16 @@
 -- The whole answer to one event: paper 01's number and place, and the knowledge, done or refused.
-use Prim.Native.Nat.{ℕ}
+use Prim.Native.Nat.{ℕ, zero, suc}
 use mathlib.Core.Path.{_≡_}
-use Rattle.knowing.specs.Standing.{Sound}
 use Rattle.knowing.specs.Ways.{Knows}
 use Rattle.terms.specs.declared.Event.{Event}
 use Rattle.terms.specs.declared.Part.{Part}
 use Rattle.terms.specs.declared.PartRead.{PartRead}
 use Rattle.terms.specs.declared.PartRead.the-variants.{Is, Refused}
-use Rattle.terms.specs.Event.{recorded}
 use Rattle.parts.specs.Facts.{same?, range, move}
-use Rattle.recording.specs.declared.read.Read.{Read}
-use Rattle.recording.specs.declared.read.Read.the-variants as Reads
-use Rattle.recording.specs.Record as Record
-use Rattle.recording.specs.Record.{front}
 use Rattle.panel.specs.declared.knowledge.Panel.{Panel}
-use Rattle.hearing_answer.specs.Answer.{number, place}
+use Rattle.hearing_answer.specs.Answer.{number, place, Answered}
 use Rattle.hearing.specs.declared.events.Heard.{Heard}
-use Rattle.panel.specs.View.{knownOf, OtherKept, Where}
+use Rattle.panel.specs.View.{knownOf, OtherKept}
 
 -- Refused with the number n, at place 0: the knowledge comes back as handed in.
 pub record RefusedBy (n : ℕ) (k : Panel) (r : Heard) : Type 0 where
@@ -35,14 +29,13 @@ pub record EventDone (p : Part) (e : Event) (k : Panel) (r : Heard) : Type 0 whe
   pub placed : place (r .answer) ≡ 0
   pub after : After p e k (r .panel)
 
--- By what the event's own record is read as: done where it is a record, else refused with that refusal's number.
-abbrev pub AsRecord : Read → Part → Event → Panel → Heard → Type 0
-AsRecord (Reads.Is x m) p e k r = EventDone p e k r
-AsRecord (Reads.Refused x) p e k r = RefusedBy (Record.number x) k r
+-- By the number: done with 0, else refused by it.
+abbrev pub HeardBy : ℕ → Part → Event → Panel → Heard → Type 0
+HeardBy zero p e k r = EventDone p e k r
+HeardBy (suc n) p e k r = RefusedBy (suc n) k r
 
--- Number 2 exactly where a known value is outside its fact's range; then the event is tested as records are.
 abbrev pub HearsPart : Part → Event → Panel → Heard → Type 0
-HearsPart p e k r = Where (Sound (range p) (knownOf p k)) (AsRecord (front p (recorded e)) p e k r) (RefusedBy 2 k r)
+HearsPart p e k r = Answered p e k (λ n. HeardBy n p e k r)
 
 -- Number 1 exactly where the part byte names no part, before anything else is looked at.
 abbrev pub Hears : PartRead → Event → Panel → Heard → Type 0

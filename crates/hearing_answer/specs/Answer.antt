@@ -11,7 +11,8 @@ use Rattle.recording.specs.declared.read.Read.the-variants.{Is, Refused}
 use Rattle.recording.specs.Record as Record
 use Rattle.recording.specs.Record.{front}
 use Rattle.panel.specs.declared.knowledge.Panel.{Panel}
-use Rattle.panel.specs.View.{knownOf, Where}
+use Rattle.rules.specs.Where.{Where}
+use Rattle.panel.specs.View.{knownOf}
 use Rattle.hearing_answer.specs.declared.Answer.{Answer}
 use Rattle.hearing_answer.specs.declared.Answer.the-variants.{Done, NoPart, OutOfRange, Foreign, Forbidden}
 
@@ -36,11 +37,18 @@ pub record Numbered (n : ℕ) (a : Answer) : Type 0 where
   pub numbered : number a ≡ n
   pub placed : place a ≡ 0
 
--- What the event's own record is read as: done where it is a record, else that refusal's number.
-abbrev pub readAs : Read → ℕ
-readAs (Is x m) = 0
-readAs (Refused x) = Record.number x
+-- The number that a record gets as it is read: 0 where it is one, else its refusal's.
+abbrev pub recordNumber : Read → ℕ
+recordNumber (Is x m) = 0
+recordNumber (Refused x) = Record.number x
 
--- Number 2 exactly where a known value is outside its fact's range; then the event is tested as records are.
+-- An event is tested as its own record is.
+abbrev pub eventNumber : Part → Event → ℕ
+eventNumber p e = recordNumber (front p (recorded e))
+
+-- P with the number that an event gets: 2 exactly where a known value is outside its fact's range; else its own.
+abbrev pub Answered : Part → Event → Panel → (ℕ → Type 0) → Type 0
+Answered p e k P = Where (Sound (range p) (knownOf p k)) (P (eventNumber p e)) (P 2)
+
 abbrev pub Answers : Part → Event → Panel → Answer → Type 0
-Answers p e k a = Where (Sound (range p) (knownOf p k)) (Numbered (readAs (front p (recorded e))) a) (Numbered 2 a)
+Answers p e k a = Answered p e k (λ n. Numbered n a)

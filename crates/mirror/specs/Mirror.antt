@@ -5,8 +5,8 @@ use mathlib.Core.List.{List}
 use Rattle.terms.specs.Part.{partOf}
 use Rattle.panel.specs.declared.knowledge.Panel.{Panel}
 use Rattle.panel.specs.View.{KnowsNothing}
-use Rattle.replay_answer.specs.declared.answer.Replayed.{Replayed}
-use Rattle.replay_answer.specs.Replay.{Replays}
+use Rattle.replay.specs.declared.replays.Replayed.{Replayed}
+use Rattle.replay.specs.Replay.{Replays}
 use Rattle.page.specs.Page.{page, Prints}
 
 -- The replay of the whole recording by who knows nothing.

@@ -5,7 +5,7 @@ use input::read_input;
 use libc::STDOUT_FILENO;
 use mirror_input::part_byte;
 use mirror_input::recording_of;
-use replay_answer::Replayed;
+use replay::Replayed;
 use terms::Place;
 ghost use Rattle.mirror_input.specs.Input.{partByte, behind};
 ghost use Rattle.mirror.specs.Mirror.{FromNothing, Shows};

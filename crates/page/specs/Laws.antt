@@ -10,8 +10,8 @@ use lib.ListN.{length, drop, length-append}
 use borrow.Author.Tests.{ltb-true, ltb-false}
 use Rattle.terms.specs.declared.PartRead.{PartRead}
 use Rattle.panel.specs.declared.knowledge.Panel.{Panel}
-use Rattle.replay_answer.specs.declared.answer.Answer.{Answer}
-use Rattle.replay_answer.specs.Answer.{number, place}
+use Rattle.answers.specs.declared.Answer.{Answer}
+use Rattle.answers.specs.Answer.{number, place}
 use Rattle.writing.specs.Writes.{Writes}
 use Rattle.writing.specs.Laws.{writes-front}
 use Rattle.listing.specs.Memory.{memory}

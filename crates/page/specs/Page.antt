@@ -6,8 +6,8 @@ use mathlib.Core.List.{List, [], _∷_, _++_}
 use lib.ListN.{length, drop}
 use Rattle.terms.specs.declared.PartRead.{PartRead}
 use Rattle.panel.specs.declared.knowledge.Panel.{Panel}
-use Rattle.replay_answer.specs.declared.answer.Answer.{Answer}
-use Rattle.replay_answer.specs.Answer.{number, place}
+use Rattle.answers.specs.declared.Answer.{Answer}
+use Rattle.answers.specs.Answer.{number, place}
 use Rattle.text.specs.Text.{newline, decimal}
 use Rattle.listing.specs.Memory.{memory}
 

@@ -1,8 +1,8 @@
 // The whole page of a replay.
+use answers::Answer;
+use answers::told_of;
 use listing::memory;
 use panel::Panel;
-use replay_answer::Answer;
-use replay_answer::told_of;
 use terms::Place;
 use text::decimal;
 use writing::put;

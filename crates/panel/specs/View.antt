@@ -26,8 +26,3 @@ OtherKept Pt6315 k r = r .character ≡ k .character
 pub record KnowsNothing (k : Panel) : Type 0 where
   pub segment : (f : Segment.Fact) → OfSegment.kview (k .segment) f ≡ unknown
   pub character : (f : Character.Fact) → OfCharacter.kview (k .character) f ≡ unknown
-
--- By a condition: it holds, and P, or it does not, and Q.
-pub data Where (Good P Q : Type 0) : Type 0 where
-  good : Good → P → Where Good P Q
-  bad : ¬ Good → Q → Where Good P Q

@@ -4,7 +4,7 @@ use mathlib.Core.Path.{_≡_}
 use mathlib.Core.List.{List}
 use Rattle.terms.specs.declared.Part.{Part}
 use Rattle.recording.specs.Walk.{walked, events, endOf}
-use Rattle.walks.specs.Left.{InTurn}
+use Rattle.walks.specs.Turn.{InTurn}
 use Rattle.parts.specs.Facts.{same?, range, move}
 use Rattle.segment.specs.declared.chip.Family.{Family}
 use Rattle.segment.specs.Family.{sizes}

@@ -1,11 +1,11 @@
--- The kinds that a match of the code does not name, and the record at a place.
+-- The kinds that a match of the code does not name, the record at a place, and the part from a place on.
 use Prim.Native.Nat.{ℕ, _+_, _-_, _<_, _≤_}
 use native.Mathlib.Omega.{arith}
 use mathlib.Core.Path.{_≡_, refl, sym, ap, _∙_}
 use mathlib.Core.Bool.{true, false}
 use mathlib.Core.List.{List}
-use lib.ListN.{length, getD, drop, length-drop}
-use lib.Seq.{getD-drop}
+use lib.ListN.{length, getD, drop, take, length-drop}
+use lib.Seq.{getD-drop, take-all}
 use borrow.Author.Tests.{ne-eqb, lt-ltb, le-ltb}
 use Rattle.terms.specs.declared.Event.the-variants.{ByteOut}
 use Rattle.terms.specs.declared.Part.{Part}
@@ -45,3 +45,7 @@ module _ (p : Part) (l : List ℕ) (i : ℕ) where
 
   pub at-body : (r : Read) → listed kind ≡ true → belongs p kind ≡ true → bodyOf kind < length l - i → r ≡ ofBody p kind (drop i l) → r ≡ front p (drop i l)
   at-body r e f h q = q ∙ sym (front-at ∙ rw (e, f, lt-ltb (bodyOf kind) (length (drop i l)) (rw (length-drop i l) h)) refl)
+
+-- The part of a recording from a place on, as code lends it.
+pub part-from : (from : ℕ) (l : List ℕ) → take (length l - from) (drop from l) ≡ drop from l
+part-from from l = take-all (length l - from) (drop from l) (let d = length-drop from l in omega (arith, d))

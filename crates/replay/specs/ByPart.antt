@@ -18,10 +18,11 @@ use Rattle.recording.specs.declared.read.Refusal.{Refusal}
 use Rattle.recording.specs.declared.read.Refusal.the-variants.{Unlisted, Foreign, CutShort, Forbidden}
 use Rattle.parts.specs.Facts.{range}
 use Rattle.panel.specs.declared.knowledge.Panel.{Panel}
-use Rattle.panel.specs.View.{good, bad, knownOf}
-use Rattle.replay_answer.specs.declared.answer.Replayed.{Replayed}
-use Rattle.replay_answer.specs.Answer.{number, RefusedBy}
-use Rattle.replay_answer.specs.Replay.{PartDone, ByEnding, Tested, ReplaysPart, Replays}
+use Rattle.panel.specs.View.{knownOf}
+use Rattle.replay.specs.declared.replays.Replayed.{Replayed}
+use Rattle.answers.specs.Answer.{number}
+use Rattle.replay_tests.specs.Laws.{tests-passed, past-tests}
+use Rattle.replay.specs.Replay.{RefusedBy, PartDone, ByEnding, ReplaysPart, Replays}
 
 -- What the replay promises, where the part byte names the part p.
 pub replays-by : (k : Panel) (l : List ℕ) (start : ℕ) (r : Replayed) (q : PartRead) (p : Part) → q ≡ Is p → Replays q k l start r → ReplaysPart p k l start r
@@ -33,13 +34,6 @@ refusal-numbered Unlisted e = omega arith
 refusal-numbered Foreign e = omega arith
 refusal-numbered CutShort e = omega arith
 refusal-numbered Forbidden e = omega arith
-
-tests-passed : (G P : Type 0) (k : Panel) (l : List ℕ) (start : ℕ) (r : Replayed) → number (r .answer) ≡ 0 → Tested G k l start r P
-    → G × (length l ≤ 65535) × (start ≤ length l) × P
-tests-passed G P k l start r z (good a (good b (good c p))) = (a, b, c, p)
-tests-passed G P k l start r z (good a (good b (bad c p))) = absurd (let e = sym (p .numbered) ∙ z in omega (arith, e))
-tests-passed G P k l start r z (good a (bad b p)) = absurd (let e = sym (p .numbered) ∙ z in omega (arith, e))
-tests-passed G P k l start r z (bad a p) = absurd (let e = sym (p .numbered) ∙ z in omega (arith, e))
 
 records-end : (e : Ending) (start : ℕ) (k : Panel) (r : Replayed) (P : Type 0) → number (r .answer) ≡ 0 → ByEnding e start k r P → (e ≡ Done) × P
 records-end Done start k r P z p = (refl, p)
@@ -57,20 +51,14 @@ module _ (p : Part) (k : Panel) (l : List ℕ) (start : ℕ) (r : Replayed) (met
   -- Number 0: the recording was acceptable, and the answer is the done one.
   pub accepted : number (r .answer) ≡ 0 → Acceptable p k l start × PartDone p (events (walked p (drop start l))) k l r
   accepted z =
-      let (sound, short, within, rest) = tests-passed _ _ k l start r z met in
+      let (sound, short, within, rest) = tests-passed (λ n. RefusedBy n 0 k r) (λ m two four h. let e = sym (h .numbered) ∙ z in omega (arith, e, two)) met in
       let (ends, done) = records-end (endOf (walked p (drop start l))) start k r _ z rest in
       (record { in-range = sound; short = short; within = within; ends = ends }, done)
 
   -- Behind the tests that it passes, the answer goes by how the records end.
   pub passed : Sound (range p) (knownOf p k) → length l ≤ 65535 → start ≤ length l
       → ByEnding (endOf (walked p (drop start l))) start k r (PartDone p (events (walked p (drop start l))) k l r)
-  passed a b c = go met
-    where
-      go : ReplaysPart p k l start r → ByEnding (endOf (walked p (drop start l))) start k r (PartDone p (events (walked p (drop start l))) k l r)
-      go (good _ (good _ (good _ h))) = h
-      go (good _ (good _ (bad n h))) = absurd (n c)
-      go (good _ (bad n h)) = absurd (n b)
-      go (bad n h) = absurd (n a)
+  passed a b c = past-tests (λ n. RefusedBy n 0 k r) a b c met
 
   -- What is acceptable is accepted.
   pub accepts : Acceptable p k l start → PartDone p (events (walked p (drop start l))) k l r
@@ -80,15 +68,11 @@ module _ (p : Part) (k : Panel) (l : List ℕ) (start : ℕ) (r : Replayed) (met
   pub record-refused : 5 ≤ number (r .answer)
       → (x : Refusal) × (at : Place) × (endOf (walked p (drop start l)) ≡ Stops x at)
       × RefusedBy (Record.number x) (start + at .0) k r
-  record-refused five = go met
+  record-refused five =
+      let (_, _, _, rest) = tests-passed (λ n. RefusedBy n 0 k r) (λ m two four h. let e = h .numbered in omega (arith, e, four, five)) met in
+      by (endOf (walked p (drop start l))) refl rest
     where
       by : (e : Ending) → endOf (walked p (drop start l)) ≡ e → ByEnding e start k r (PartDone p (events (walked p (drop start l))) k l r)
           → (x : Refusal) × (at : Place) × (endOf (walked p (drop start l)) ≡ Stops x at) × RefusedBy (Record.number x) (start + at .0) k r
       by Done q h = absurd (let n = h .numbered in omega (arith, n, five))
       by (Stops x at) q h = (x, at, q, h)
-
-      go : ReplaysPart p k l start r → (x : Refusal) × (at : Place) × (endOf (walked p (drop start l)) ≡ Stops x at) × RefusedBy (Record.number x) (start + at .0) k r
-      go (good _ (good _ (good _ h))) = by (endOf (walked p (drop start l))) refl h
-      go (good _ (good _ (bad _ h))) = absurd (let n = h .numbered in omega (arith, n, five))
-      go (good _ (bad _ h)) = absurd (let n = h .numbered in omega (arith, n, five))
-      go (bad _ h) = absurd (let n = h .numbered in omega (arith, n, five))

@@ -1,6 +1,6 @@
 // The replay: knowledge in, recording in, knowledge out, or a refusal that points at its byte, with the knowledge as it was handed in.
 mod replays;
 
-pub use replay_answer::Answer;
-pub use replay_answer::Replayed;
+pub use answers::Answer;
+pub use replays::Replayed;
 pub use replays::replay;

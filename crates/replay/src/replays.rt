@@ -1,10 +1,9 @@
 // The replay for all parts: the part byte is looked at once.
+use answers::Answer;
+use answers::refused;
 use panel::Panel;
 use panel_walks::panel_walk;
 use recording::Ending;
-use replay_answer::Answer;
-use replay_answer::Replayed;
-use replay_answer::refused;
 use replay_tests::Trial;
 use replay_tests::tried;
 use terms::Part;
@@ -14,7 +13,13 @@ use terms::part_of;
 ghost use Prim.Native.Nat.{_≤_};
 ghost use lib.ListN.{length};
 ghost use Rattle.terms.specs.Part.{partOf};
-ghost use Rattle.replay_answer.specs.Replay.{Replays, ReplaysPart, ReplaysFrom};
+ghost use Rattle.replay.specs.Replay.{Replays, ReplaysPart, ReplaysFrom};
+
+// The answer, and the knowledge: after the recording where it is done, else as it was handed in.
+pub struct Replayed {
+    pub answer: Answer,
+    pub panel: Panel,
+}
 
 pub fn replay(part: u8, panel: Panel, recording: &[u8], start: Place) -> Replayed
     ensures { λ r. ⌜ Replays (partOf part) panel (now (recording .entry)) (start .0) r ⌝ }

@@ -1,10 +1,10 @@
 // The answers of the replay and of the tail finder, in words.
+use answers::Answer;
+use answers::told_of;
 use example_text::bytes;
 use example_text::character;
 use example_text::number;
 use example_text::text;
-use replay_answer::Answer;
-use replay_answer::told_of;
 use tail::Found;
 
 pub fn replayed(answer: Answer) {

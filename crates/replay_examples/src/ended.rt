@@ -4,7 +4,7 @@ use crate::starts;
 use example_panels::show_known;
 use example_recordings::Example;
 use panel::Panel;
-use replay_answer::Replayed;
+use replay::Replayed;
 use terms::Place;
 
 // A line that is not a remark is run where it ends.

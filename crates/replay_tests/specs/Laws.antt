@@ -1,23 +1,26 @@
--- What was tried is what a replay's answer goes by. The argument: each answer that refuses says which test failed.
+-- What follows from the tests: each law goes through the three conditions in their order.
 use Prim.Native.Nat.{ℕ, _≤_}
-use mathlib.Core.Path.{_≡_, refl}
-use mathlib.Core.List.{List}
-use lib.ListN.{length}
-use Rattle.panel.specs.declared.knowledge.Panel.{Panel}
-use Rattle.panel.specs.View.{good, bad}
-use Rattle.replay_answer.specs.declared.answer.Answer.{Answer}
-use Rattle.replay_answer.specs.declared.answer.Answer.the-variants.{Done, NoPart, OutOfRange, BeyondEnd, TooLong, Unlisted, Foreign, CutShort, Forbidden}
-use Rattle.replay_answer.specs.Replay.{Tested}
-use Rattle.replay_tests.specs.Tests.{Refuses}
+use native.Mathlib.Omega.{arith}
+use Rattle.rules.specs.Where.{where-good, where-not, where-map, where-both}
+use Rattle.replay_tests.specs.Tests.{Tested}
 
-module _ {G P : Type 0} (k : Panel) (l : List ℕ) (start : ℕ) where
-  pub refuses-tested : (a : Answer) → Refuses G (length l) start a → Tested G k l start (record { answer = a; panel = k }) P
-  refuses-tested (OutOfRange at) (z, g) = bad g (record { numbered = refl; placed = z; kept = refl })
-  refuses-tested (TooLong at) (z, g, long) = good g (bad long (record { numbered = refl; placed = z; kept = refl }))
-  refuses-tested (BeyondEnd at) (z, g, short, out) = good g (good short (bad out (record { numbered = refl; placed = z; kept = refl })))
-  refuses-tested (Done at) h = absurd h
-  refuses-tested (NoPart at) h = absurd h
-  refuses-tested (Unlisted at) h = absurd h
-  refuses-tested (Foreign at) h = absurd h
-  refuses-tested (CutShort at) h = absurd h
-  refuses-tested (Forbidden at) h = absurd h
+module _ {G : Type 0} {n start : ℕ} (R : ℕ → Type 0) {P : Type 0} where
+  pub tested-map : (S : ℕ → Type 0) {Q : Type 0} → ((m : ℕ) → R m → S m) → (P → Q) → Tested G n start R P → Tested G n start S Q
+  tested-map S f h t = where-map (where-map (where-map h (f 3)) (f 4)) (f 2) t
+
+  -- Refused by none of them.
+  pub tests-passed : ((m : ℕ) → 2 ≤ m → m ≤ 4 → R m → ⊥) → Tested G n start R P → G × (n ≤ 65535) × (start ≤ n) × P
+  tests-passed never t =
+      let (g, two) = where-not (never 2 (omega arith) (omega arith)) t in
+      let (short, four) = where-not (never 4 (omega arith) (omega arith)) two in
+      let (within, p) = where-not (never 3 (omega arith) (omega arith)) four in
+      (g, short, within, p)
+
+  -- Behind the tests.
+  pub past-tests : G → n ≤ 65535 → start ≤ n → Tested G n start R P → P
+  past-tests g short within t = where-good within (where-good short (where-good g t))
+
+  -- Two that are tested alike go the same way.
+  pub tested-both : (S : ℕ → Type 0) {Q X : Type 0} → ((m : ℕ) → R m → S m → X) → (P → Q → X)
+      → Tested G n start R P → Tested G n start S Q → X
+  tested-both S f h t u = where-both (where-both (where-both h (f 3)) (f 4)) (f 2) t u

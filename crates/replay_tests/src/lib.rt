@@ -1,7 +1,7 @@
 // What a replay is refused for before its first record: tests 2, 4 and 3.
+use answers::Answer;
 use panel::Panel;
 use panel_ranges::in_range;
-use replay_answer::Answer;
 use terms::Part;
 use terms::Place;
 ghost use Rattle.knowing.specs.Standing.{Sound};

@@ -21,7 +21,7 @@ use Rattle.segment.specs.Sent.{sent}
 use Rattle.segment_knowledge.specs.View.{kview}
 use Rattle.panel.specs.declared.knowledge.Panel.{Panel}
 use Rattle.reporting.specs.declared.reports.Report.{Report}
-use Rattle.panel.specs.View.{good, bad}
+use Rattle.rules.specs.Where.{good, bad}
 use Rattle.reporting.specs.Laws.{tells-as}
 use Rattle.reporting.specs.Report as Told
 use Rattle.reporting.specs.Report.{Tells, TellsPart, TellsSegment, SegmentExact, ReportExact}

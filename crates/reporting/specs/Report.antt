@@ -17,7 +17,7 @@ use Rattle.segment_sent.specs.Report.{sending}
 use Rattle.panel.specs.declared.knowledge.Panel.{Panel}
 use Rattle.reporting.specs.declared.reports.Report.{Report}
 use Rattle.reporting.specs.declared.reports.Report.the-variants.{Is, NoPart, OutOfRange}
-use Rattle.panel.specs.View.{Where}
+use Rattle.rules.specs.Where.{Where}
 
 -- Paper 01's number for each case, its place, and what it says of the byte: refused, it reports unknown.
 abbrev pub number : Report → ℕ

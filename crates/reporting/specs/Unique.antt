@@ -15,7 +15,7 @@ use Rattle.segment_sent.specs.Report.{sending}
 use Rattle.panel.specs.declared.knowledge.Panel.{Panel}
 use Rattle.reporting.specs.declared.reports.Report.{Report}
 use Rattle.reporting.specs.declared.reports.Report.the-variants as R
-use Rattle.panel.specs.View.{good, bad}
+use Rattle.rules.specs.Where.{where-both}
 use Rattle.reporting.specs.Report as Told
 
 -- A byte is below 256. This holds of every report that code hands over.
@@ -57,10 +57,7 @@ module _ (k : Panel) (r q : Report) (sr : Small r) (sq : Small q) where
   same-told n s h g = same-report r q sr sq (h .numbered ∙ sym (g .numbered)) (h .placed ∙ sym (g .placed)) (h .told ∙ sym (g .told))
 
   by-family : (p : Family) → Told.TellsSegment p k r → Told.TellsSegment p k q → r ≡ q
-  by-family p (good s h) (good t g) = same-told 0 _ h g
-  by-family p (good s h) (bad n g) = absurd (n s)
-  by-family p (bad n h) (good s g) = absurd (n s)
-  by-family p (bad n h) (bad m g) = same-told 2 _ h g
+  by-family p h g = where-both (same-told 0 _) (same-told 2 _) h g
 
   -- Two reports are one.
   pub one-report : (p : PartRead) → Told.Tells p k r → Told.Tells p k q → r ≡ q

@@ -1,4 +1,5 @@
 pub mod Choice
+pub mod Where
 pub mod Rule
 pub mod Change
 pub mod Range

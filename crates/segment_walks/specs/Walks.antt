@@ -11,7 +11,7 @@ use Rattle.segment.specs.Move.{move}
 use Rattle.segment_knowledge.specs.declared.knowledge.Knowledge.{Knowledge}
 use Rattle.segment_knowledge.specs.View.{kview}
 use Rattle.segment_walks.specs.declared.SegmentWalked.{SegmentWalked}
-use Rattle.walks.specs.Left.{InTurn}
+use Rattle.walks.specs.Turn.{InTurn}
 
 -- The records from the front, each by 5, 6, 7, 8: how they end, and what the events before that, in turn, make of the
 -- knowledge.

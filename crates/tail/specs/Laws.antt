@@ -15,8 +15,8 @@ use Rattle.recording.specs.Steps.{gap-within}
 use Rattle.recording.specs.declared.read.Refusal.{Refusal}
 use Rattle.recording.specs.declared.ending.Ending.{Ending}
 use Rattle.recording.specs.declared.ending.Ending.the-variants.{Done, Stops}
-use Rattle.replay_answer.specs.declared.answer.Answer.the-variants as A
-use Rattle.replay_answer.specs.Answer.{refusedAs}
+use Rattle.answers.specs.declared.Answer.the-variants as A
+use Rattle.answers.specs.Answer.{refusedAs}
 use Rattle.tail.specs.declared.gaps.Found.{Found}
 use Rattle.tail.specs.Tail.{none, foundBy, foundIn, found}
 

@@ -12,9 +12,9 @@ use Rattle.terms.specs.declared.PartRead.the-variants.{Is, Refused}
 use Rattle.recording.specs.Walk.{walked, endOf, behindGap}
 use Rattle.recording.specs.declared.ending.Ending.{Ending}
 use Rattle.recording.specs.declared.ending.Ending.the-variants.{Done, Stops}
-use Rattle.replay_answer.specs.declared.answer.Answer.{Answer}
-use Rattle.replay_answer.specs.declared.answer.Answer.the-variants as A
-use Rattle.replay_answer.specs.Answer.{refusedAs}
+use Rattle.answers.specs.declared.Answer.{Answer}
+use Rattle.answers.specs.declared.Answer.the-variants as A
+use Rattle.answers.specs.Answer.{refusedAs}
 use Rattle.tail.specs.declared.gaps.Found.{Found}
 
 abbrev spot : ℕ → Place

@@ -1,7 +1,7 @@
 // Where the tail is: tests 1 and 4, then the records.
 use crate::gaps::Found;
 use crate::gaps::walk_gaps;
-use replay_answer::Answer;
+use answers::Answer;
 use terms::Part;
 use terms::PartRead;
 use terms::Place;

@@ -1,8 +1,8 @@
 // The walk that looks for gaps.
+use answers::Answer;
+use answers::refused;
 use recording::Read;
 use recording::record_at;
-use replay_answer::Answer;
-use replay_answer::refused;
 use terms::Event;
 use terms::Part;
 use terms::Place;

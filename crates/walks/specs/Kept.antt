@@ -12,7 +12,7 @@ use Rattle.terms.specs.declared.Event.{Event}
 use Rattle.recording.specs.Walk.{Walk, done, stops, next, events, endOf}
 use Rattle.recording.specs.declared.read.Refusal.{Refusal}
 use Rattle.recording.specs.declared.ending.Ending.the-variants.{Done, Stops}
-use Rattle.walks.specs.Left.{InTurn}
+use Rattle.walks.specs.Turn.{InTurn}
 
 module _ {F K : Type 0} (view : K → F → Standing) (same? : Discrete F) (range : F → ℕ) (move : Event → Rule F F) where
   pub record Kept (whole : Walk) (first : K) (rest : Walk) (k : K) : Type 0 where

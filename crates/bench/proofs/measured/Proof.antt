@@ -4,7 +4,7 @@ use native.Mathlib.Omega.{arith}
 use mathlib.Core.Path.{_≡_, refl}
 use mathlib.Core.List.{List, [], _∷_}
 use lib.ListN.{length, take, drop}
-use Rattle.replay_answer.specs.Laws.{part-from}
+use Rattle.recording.specs.Laws.{part-from}
 use borrow.Author.Needs.{needs}
 use Rattle.bench.proofs.measured.Statement.{statement}
 use Rattle.bench.proofs.measured.Tie as tie

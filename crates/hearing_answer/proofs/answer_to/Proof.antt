@@ -4,16 +4,16 @@ use mathlib.Core.Path.{_≡_, refl, sym, ap, _∙_, subst⁻¹}
 use borrow.Author.Tests.{not-true, not-false}
 use Rattle.recording.specs.declared.read.Read.{Read}
 use Rattle.carrying.specs.Carried as Carried
-use Rattle.panel.specs.View.{good, bad}
+use Rattle.rules.specs.Where.{good, bad}
 use Rattle.hearing_answer.specs.declared.Answer.{Answer}
-use Rattle.hearing_answer.specs.Answer.{Numbered, readAs}
+use Rattle.hearing_answer.specs.Answer.{Numbered, recordNumber}
 use borrow.Author.Needs.{needs}
 use Rattle.hearing_answer.proofs.answer_to.Statement.{statement}
 use Rattle.hearing_answer.proofs.answer_to.Tie as tie
 
 -- An answer to what was read is one to what that is.
-as-read : (x y : Read) (a : Answer) → x ≡ y → Numbered (readAs y) a → Numbered (readAs x) a
-as-read x y a e h = subst⁻¹ (λ (z : Read). Numbered (readAs z) a) e h
+as-read : (x y : Read) (a : Answer) → x ≡ y → Numbered (recordNumber y) a → Numbered (recordNumber x) a
+as-read x y a e h = subst⁻¹ (λ (z : Read). Numbered (recordNumber z) a) e h
 
 in-range-requires : tie.Need-in-range-requires
 in-range-requires c κs = search needs

@@ -1,6 +1,6 @@
 -- `replay::replays::replay` meets its contract: the part byte is looked at once; what names no part is refused.
 -- Assumes nothing.
-use Rattle.replay_answer.specs.Replay.{Replays, replays-refused}
+use Rattle.replay.specs.Replay.{Replays, replays-refused}
 use Rattle.terms.specs.Part.{place}
 use mathlib.Core.Path.{refl, sym, ap, _∙_, subst}
 use borrow.Author.Needs.{needs}

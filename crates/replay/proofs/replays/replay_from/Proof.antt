@@ -4,9 +4,9 @@ use native.Mathlib.Omega.{arith}
 use mathlib.Core.Path.{refl, sym, _∙_, subst}
 use lib.ListN.{drop, length-drop}
 use Prim.Native.Nat.{_+_}
-use Rattle.replay_answer.specs.Laws.{part-from}
-use Rattle.replay_answer.specs.Replay.{ends-by}
-use Rattle.replay_answer.specs.Answer.{refused-as}
+use Rattle.recording.specs.Laws.{part-from}
+use Rattle.replay.specs.Replay.{ends-by}
+use Rattle.answers.specs.Answer.{refused-as}
 use Rattle.recording.specs.Steps.{stops-within}
 use Rattle.recording.specs.Walk.{walked, endOf}
 use Rattle.panel_walks.specs.Walks.{Walks}

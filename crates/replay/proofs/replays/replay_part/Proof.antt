@@ -1,16 +1,18 @@
 -- `replay::replays::replay_part` meets its contract: what was tried decides, and the walk does the rest.
 -- Assumes nothing.
 use Prim.Native.Nat.{ℕ}
-use mathlib.Core.Path.{_≡_, subst}
+use mathlib.Core.Path.{_≡_, refl, subst}
 use lib.ListN.{length}
 use Rattle.knowing.specs.Standing.{Sound}
 use Rattle.terms.specs.declared.Part.{Part}
 use Rattle.parts.specs.Facts.{range}
 use Rattle.panel.specs.declared.knowledge.Panel.{Panel}
-use Rattle.panel.specs.View.{good, knownOf}
+use Rattle.panel.specs.View.{knownOf}
 use Rattle.replay_tests.specs.declared.Trial.{Trial}
-use Rattle.replay_tests.specs.Tests.{Tries}
-use Rattle.replay_tests.specs.Laws.{refuses-tested}
+use Rattle.replay_tests.specs.declared.Trial.the-variants.{Passed, Refused}
+use Rattle.replay.specs.Replay.{RefusedBy}
+use Rattle.replay_tests.specs.Tests.{RefusedWith, Tries}
+use Rattle.replay_tests.specs.Laws.{tests-passed, tested-map}
 use borrow.Author.Needs.{needs}
 use Rattle.replay.proofs.replays.replay_part.Statement.{statement}
 use Rattle.replay.proofs.replays.replay_part.Tie as tie
@@ -28,7 +30,7 @@ enum-told c = search needs
 replay-from-requires : tie.Need-replay-from-requires
 replay-from-requires c κs =
     let a = c .before .before .before .before .args in
-    let p = tells (a .part) (a .panel) (length (a .recording .now)) (a .start .0) (c .enum-told .given .1) (c .before .before .tried .ensures) in
+    let p = tests-passed (λ m. RefusedWith m Passed) (λ m two four never. never) (tells (a .part) (a .panel) (length (a .recording .now)) (a .start .0) (c .enum-told .given .1) (c .before .before .tried .ensures)) in
     (p .1, p .2)
 
 enum-known-tried : tie.Need-enum-known-tried
@@ -37,13 +39,14 @@ enum-known-tried c = search needs
 returns : tie.Need-returns
 returns c =
     let a = c .before .before .before .before .before .args in
-    let p = tells (a .part) (a .panel) (length (a .recording .now)) (a .start .0) (c .before .enum-told .given .1) (c .before .before .before .tried .ensures) in
-    good (p .0) (good (p .1) (good (p .2) (c .replay-from .ensures)))
+    tested-map (λ m. RefusedWith m Passed) (λ m. RefusedBy m 0 (a .panel) (c .replay-from .result)) (λ m never. absurd never) (λ passed. c .replay-from .ensures)
+    (tells (a .part) (a .panel) (length (a .recording .now)) (a .start .0) (c .before .enum-told .given .1) (c .before .before .before .tried .ensures))
 
 returns-2 : tie.Need-returns-2
 returns-2 c =
     let a = c .before .before .before .before .before .args in
-    refuses-tested (a .panel) (a .recording .now) (a .start .0) _ (tells (a .part) (a .panel) (length (a .recording .now)) (a .start .0) (c .before .tried2 .given .1) (c .before .before .before .tried .ensures))
+    tested-map (λ m. RefusedWith m (Refused (c .before .tried2 .given .0 .0))) (λ m. RefusedBy m 0 (a .panel) (record { answer = c .before .tried2 .given .0 .0; panel = a .panel })) (λ m h. record { numbered = h .0; placed = h .1; kept = refl }) (λ never. absurd never)
+    (tells (a .part) (a .panel) (length (a .recording .now)) (a .start .0) (c .before .tried2 .given .1) (c .before .before .before .tried .ensures))
 
 pub replay-part-spec : {M : Type 1} → statement M
 replay-part-spec = tie.close (tie.spec tried-requires enum-told replay-from-requires enum-known-tried returns returns-2)

@@ -5,7 +5,7 @@ use mathlib.Core.Path.{refl, sym, _∙_}
 use Rattle.segment.specs.Family.{sizes}
 use Rattle.segment_knowledge.specs.View.{held}
 use Rattle.segment_sent.specs.Report.{bare-sound}
-use Rattle.panel.specs.View.{good, bad}
+use Rattle.rules.specs.Where.{good, bad}
 use borrow.Author.Needs.{needs}
 use Rattle.reporting.proofs.reports.segment_sends.Statement.{statement}
 use Rattle.reporting.proofs.reports.segment_sends.Tie as tie

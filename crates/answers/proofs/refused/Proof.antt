@@ -1,9 +1,9 @@
--- `replay_answer::answer::refused` meets its contract: each case by its name.
+-- `answers::refused` meets its contract: each case by its name.
 -- Assumes nothing.
 use mathlib.Core.Path.{refl}
 use borrow.Author.Needs.{needs}
-use Rattle.replay_answer.proofs.answer.refused.Statement.{statement}
-use Rattle.replay_answer.proofs.answer.refused.Tie as tie
+use Rattle.answers.proofs.refused.Statement.{statement}
+use Rattle.answers.proofs.refused.Tie as tie
 
 enum-told : tie.Need-enum-told
 enum-told c = search needs

@@ -1,5 +1,5 @@
 -- The whole answer of a replay: number, place and knowledge, on good and on refused calls.
-use Prim.Native.Nat.{ℕ, _+_, _≤_}
+use Prim.Native.Nat.{ℕ, _+_}
 use mathlib.Core.Path.{_≡_, subst}
 use mathlib.Core.List.{List}
 use lib.ListN.{length, drop}
@@ -13,12 +13,19 @@ use Rattle.recording.specs.Record as Record
 use Rattle.recording.specs.Walk.{walked, events, endOf}
 use Rattle.recording.specs.declared.ending.Ending.{Ending}
 use Rattle.recording.specs.declared.ending.Ending.the-variants.{Done, Stops}
-use Rattle.walks.specs.Left.{InTurn}
+use Rattle.walks.specs.Turn.{InTurn}
 use Rattle.parts.specs.Facts.{same?, range, move}
 use Rattle.panel.specs.declared.knowledge.Panel.{Panel}
-use Rattle.panel.specs.View.{knownOf, OtherKept, Where}
-use Rattle.replay_answer.specs.declared.answer.Replayed.{Replayed}
-use Rattle.replay_answer.specs.Answer.{number, place, RefusedBy}
+use Rattle.panel.specs.View.{knownOf, OtherKept}
+use Rattle.answers.specs.Answer.{number, place}
+use Rattle.replay_tests.specs.Tests.{Tested}
+use Rattle.replay.specs.declared.replays.Replayed.{Replayed}
+
+-- Refused with the number n at a place: the knowledge comes back as handed in.
+pub record RefusedBy (n at : ℕ) (k : Panel) (r : Replayed) : Type 0 where
+  pub numbered : number (r .answer) ≡ n
+  pub placed : place (r .answer) ≡ at
+  pub kept : r .panel ≡ k
 
 -- Done: number 0 and the recording's length; the events in turn, and the half that speaks of the other parts kept.
 pub record PartDone (p : Part) (es : List Event) (k : Panel) (l : List ℕ) (r : Replayed) : Type 0 where
@@ -39,15 +46,10 @@ ReplaysFrom p k l start r =
     let w = walked p (drop start l) in
     ByEnding (endOf w) start k r (PartDone p (events w) k l r)
 
--- Tests 2, 4, 3, each exactly then and at place 0.
-abbrev pub Tested : Type 0 → Panel → List ℕ → ℕ → Replayed → Type 0 → Type 0
-Tested good k l start r P =
-    Where good
-    (Where (length l ≤ 65535) (Where (start ≤ length l) P (RefusedBy 3 0 k r)) (RefusedBy 4 0 k r))
-    (RefusedBy 2 0 k r)
-
+-- Tests 2, 4 and 3 come before the records, each at place 0.
 abbrev pub ReplaysPart : Part → Panel → List ℕ → ℕ → Replayed → Type 0
-ReplaysPart p k l start r = Tested (Sound (range p) (knownOf p k)) k l start r (ReplaysFrom p k l start r)
+ReplaysPart p k l start r =
+    Tested (Sound (range p) (knownOf p k)) (length l) start (λ n. RefusedBy n 0 k r) (ReplaysFrom p k l start r)
 
 -- Test 1 comes first.
 abbrev pub Replays : PartRead → Panel → List ℕ → ℕ → Replayed → Type 0

@@ -1,9 +1,8 @@
-// What a replay answers.
-use panel::Panel;
+// What a call that reads a recording answers.
 use recording::Refusal;
 use terms::Place;
 ghost use mathlib.Core.Path.{_≡_};
-ghost use Rattle.replay_answer.specs.Answer.{refusedAs, number, place};
+ghost use Rattle.answers.specs.Answer.{refusedAs, number, place};
 
 // Done, with the recording's length, or why not: numbers 1 to 8, each at its place.
 pub enum Answer {
@@ -16,12 +15,6 @@ pub enum Answer {
     Foreign(Place),
     CutShort(Place),
     Forbidden(Place),
-}
-
-// The answer, and the knowledge: after the recording where it is done, else as it was handed in.
-pub struct Replayed {
-    pub answer: Answer,
-    pub panel: Panel,
 }
 
 // The answer to a record that is none.

@@ -1,14 +1,12 @@
--- Paper 01's number and place for each answer of a replay.
+-- Paper 01's number and place for each answer of a call that reads a recording.
 use Prim.Native.Nat.{ℕ}
 use mathlib.Core.Path.{_≡_, ap}
 use Rattle.terms.specs.declared.Place.{Place}
 use Rattle.recording.specs.declared.read.Refusal.{Refusal}
 use Rattle.recording.specs.declared.read.Refusal.the-variants as Record
 use Rattle.recording.specs.Record as Records
-use Rattle.panel.specs.declared.knowledge.Panel.{Panel}
-use Rattle.replay_answer.specs.declared.answer.Answer.{Answer}
-use Rattle.replay_answer.specs.declared.answer.Answer.the-variants.{Done, NoPart, OutOfRange, BeyondEnd, TooLong, Unlisted, Foreign, CutShort, Forbidden}
-use Rattle.replay_answer.specs.declared.answer.Replayed.{Replayed}
+use Rattle.answers.specs.declared.Answer.{Answer}
+use Rattle.answers.specs.declared.Answer.the-variants.{Done, NoPart, OutOfRange, BeyondEnd, TooLong, Unlisted, Foreign, CutShort, Forbidden}
 
 abbrev pub number : Answer → ℕ
 number (Done at) = 0
@@ -44,9 +42,3 @@ refused-as Record.Unlisted at r e = (ap number e, ap place e)
 refused-as Record.Foreign at r e = (ap number e, ap place e)
 refused-as Record.CutShort at r e = (ap number e, ap place e)
 refused-as Record.Forbidden at r e = (ap number e, ap place e)
-
--- Refused with the number n at a place: the knowledge comes back as handed in.
-pub record RefusedBy (n at : ℕ) (k : Panel) (r : Replayed) : Type 0 where
-  pub numbered : number (r .answer) ≡ n
-  pub placed : place (r .answer) ≡ at
-  pub kept : r .panel ≡ k
