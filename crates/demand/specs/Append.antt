@@ -1,21 +1,20 @@
 -- Replaying two recordings one after the other is replaying their concatenation, where its length is allowed. The
 -- argument: the walk over both is the walk over the first and then over the second
--- (`recording/Append.walked-append`), and events in turn are what they are in one row.
+-- (`recording/Cut.walked-append`), and events in turn are what they are in one row.
 use Prim.Native.Nat.{ℕ, _+_, _≤_}
 use native.Mathlib.Omega.{arith}
 use mathlib.Core.Path.{_≡_, sym, ap, _∙_}
-use mathlib.Core.List.{List, _++_, map, map-append}
+use mathlib.Core.List.{List, _++_}
 use lib.ListN.{length, length-append}
-use Rattle.rules.specs.Rule.{Rule}
-use Rattle.knowing.specs.Turn.{inTurn, in-turn-same, in-turn-append}
-use Rattle.terms.specs.declared.Event.{Event}
 use Rattle.terms.specs.Part.{partOf}
 use Rattle.terms.specs.declared.Part.{Part}
 use Rattle.terms.specs.declared.PartRead.the-variants.{Is}
 use Rattle.recording.specs.Walk.{walked, events, endOf}
-use Rattle.recording.specs.Append.{shifted, walked-append}
+use Rattle.recording.specs.Append.{shifted}
+use Rattle.recording.specs.Cut.{walked-append}
 use Rattle.recording.specs.declared.ending.Ending.the-variants.{Done, Stops}
 use Rattle.recording.specs.Record as Record
+use Rattle.walks.specs.Turn.{turn-on}
 use Rattle.parts.specs.Facts.{Fact, same?, range, move}
 use Rattle.panel.specs.declared.knowledge.Panel.{Panel}
 use Rattle.panel.specs.View.{knownOf}
@@ -48,18 +47,11 @@ module _ (b : ℕ) (p : Part) (named : partOf b ≡ Is p) (k : Panel) (l m : Lis
       d : PartDone p (events (walked p (l ++ m))) k (l ++ m) s
       d = ends-by _ Done 0 k s _ (ap (shifted (length l)) (then .0 .ends)) rest
 
-      one-row : (f : Fact p)
-          → inTurn (same? p) (range p) (map (move p) (events (walked p (l ++ m)))) (knownOf p k) f
-          ≡ inTurn (same? p) (range p) (map (move p) (events (walked p m))) (inTurn (same? p) (range p) (map (move p) (events (walked p l))) (knownOf p k)) f
-      one-row f =
-          ap (λ (es : List Event). inTurn (same? p) (range p) (map (move p) es) (knownOf p k) f) (walked-append p l m (begun .0 .ends) .0)
-          ∙ ap (λ (rules : List (Rule (Fact p) (Fact p))). inTurn (same? p) (range p) rules (knownOf p k) f) (map-append (move p) (events (walked p l)) (events (walked p m)))
-          ∙ in-turn-append (same? p) (range p) (map (move p) (events (walked p l))) (map (move p) (events (walked p m))) (knownOf p k) f
-
       same : (f : Fact p) → knownOf p (s .panel) f ≡ knownOf p (q .panel) f
       same f =
-          d .known f ∙ one-row f
-          ∙ sym (then .1 .known f ∙ in-turn-same (same? p) (range p) (map (move p) (events (walked p m))) (knownOf p (r .panel)) _ (begun .1 .known) f)
+          d .known f
+          ∙ sym (turn-on (knownOf p) (same? p) (range p) (move p) (events (walked p l)) (events (walked p m)) (events (walked p (l ++ m))) k (r .panel) (q .panel)
+          (walked-append p l m (begun .0 .ends) .0) (begun .1 .known) (then .1 .known) f)
 
   -- Where a record of the second is none, it is none in both, with the same number, its place counted on; and the
   -- knowledge is as handed in.

@@ -44,7 +44,7 @@ carried p l h =
     (λ _. tt))
     (λ _. tt)
 
-drop-bytes : (m : ℕ) (l : List ℕ) → AllBytes l → AllBytes (drop m l)
+pub drop-bytes : (m : ℕ) (l : List ℕ) → AllBytes l → AllBytes (drop m l)
 drop-bytes m l h i = subst⁻¹ (λ (n : ℕ). n < 256) (getD-drop m l i 0) (h (m + i))
 
 walk-carries : (n : ℕ) (p : Part) (at : ℕ) (l : List ℕ) → AllBytes l → Each Bytes (events (walk n p at l))

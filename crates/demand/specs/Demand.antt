@@ -1,21 +1,18 @@
 -- Demand 3 over a recording, as a caller has it: a part byte that names a part, and what `replay` promises of its
 -- answer. The argument: where the replay answers number 0 its promise is the events in turn (`replay/ByPart`), and
--- what holds of events in turn is shown in `whole` over any facts.
+-- `Turned` says what holds of those.
 use Prim.Native.Nat.{ℕ}
-use mathlib.Core.Path.{_≡_, sym, _∙_, fun-ext, subst, subst⁻¹}
+use mathlib.Core.Path.{_≡_}
 use mathlib.Core.Bool.{false}
-use mathlib.Core.List.{List, map}
+use mathlib.Core.List.{List}
 use lib.ListN.{length}
 use Rattle.rules.specs.Range.{Good}
 use Rattle.rules.specs.Turn.{Ends}
-use Rattle.knowing.specs.Standing.{Standing, known, Agrees, Fits, Within, Sound}
-use Rattle.knowing.specs.Turn.{inTurn}
-use Rattle.terms.specs.Event.{Bytes}
+use Rattle.knowing.specs.Standing.{Standing, known, Fits, Sound}
 use Rattle.terms.specs.Part.{partOf}
 use Rattle.terms.specs.declared.Part.{Part}
 use Rattle.terms.specs.declared.PartRead.the-variants.{Is}
-use Rattle.parts.specs.Facts.{Fact, same?, range, move}
-use Rattle.parts.specs.Laws.{two, ranged}
+use Rattle.parts.specs.Facts.{Fact, range}
 use Rattle.panel.specs.declared.knowledge.Panel.{Panel}
 use Rattle.panel.specs.View.{knownOf}
 use Rattle.replay.specs.declared.replays.Replayed.{Replayed}
@@ -24,10 +21,9 @@ use Rattle.replay.specs.Replay.{PartDone, Replays}
 use Rattle.replay.specs.ByPart.{Acceptable, replays-by, accepted, accepts}
 use Rattle.whole.specs.Turns.{Chain, KnowsAtLeast}
 use Rattle.whole.specs.Sentence.{position, StartKnows, hasGap, DefinedOn, NoUndefined, startsFirst, IsMemory, AllEnd}
-use Rattle.whole.specs.Whole.{turn-chain, chain-one, ends-fit, turn-more, turn-sound}
-use Rattle.whole.specs.Parts.{facts-exact}
 use Rattle.demand.specs.Recording.{AllBytes, eventsFrom, movesFrom}
 use Rattle.demand.specs.Bytes.{carry}
+use Rattle.demand.specs.Turned.{turned-chain, turned-one-end, turned-fits, turned-in-range, turned-more, turned-cells-exact}
 
 module _ (b : ℕ) (p : Part) (named : partOf b ≡ Is p) (k : Panel) (l : List ℕ) (start : ℕ) (r : Replayed)
     (met : Replays (partOf b) k l start r) (zero : number (r .answer) ≡ 0) (bytes : AllBytes l) where
@@ -40,28 +36,21 @@ module _ (b : ℕ) (p : Part) (named : partOf b ≡ Is p) (k : Panel) (l : List 
   -- "A recording is its events in turn": the answer is the end of a chain of knowledges, one behind each event, each
   -- exact from the one before.
   pub recording-in-turn : Chain (range p) (movesFrom p start l) (knownOf p k) (knownOf p (r .panel))
-  recording-in-turn =
-      subst (Chain (range p) (movesFrom p start l) (knownOf p k)) (sym (fun-ext (done .known)))
-      (turn-chain (same? p) (range p) (two p) (move p) Bytes (ranged p) (eventsFrom p start l) (knownOf p k) (carry p start l bytes) (acceptable .in-range))
+  recording-in-turn = turned-chain p (eventsFrom p start l) k (r .panel) (done .known) (carry p start l bytes) (acceptable .in-range)
 
   -- And no such chain ends in another knowledge.
   pub recording-one-end : (q : Fact p → Standing) → Chain (range p) (movesFrom p start l) (knownOf p k) q
       → (f : Fact p) → q f ≡ knownOf p (r .panel) f
-  recording-one-end q h =
-      chain-one (range p) (movesFrom p start l) (knownOf p k) q (knownOf p (r .panel)) h recording-in-turn
+  recording-one-end = turned-one-end p (eventsFrom p start l) k (r .panel) (done .known) (carry p start l bytes) (acceptable .in-range)
 
   -- "A chip that fitted the start fits the end", moved along any way that the rules allow.
   pub recording-fits : (c x : Fact p → ℕ) → Good (range p) c → Fits (knownOf p k) c
       → Ends (range p) (movesFrom p start l) c x → Fits (knownOf p (r .panel)) x
-  recording-fits c x good fits ends f =
-      subst⁻¹ (λ (t : Standing). Agrees t (x f)) (done .known f)
-      (ends-fit (same? p) (range p) (two p) (move p) Bytes (ranged p) (eventsFrom p start l) (knownOf p k) (carry p start l bytes) (acceptable .in-range) c x good fits ends f)
+  recording-fits = turned-fits p (eventsFrom p start l) k (r .panel) (done .known) (carry p start l bytes) (acceptable .in-range)
 
   -- The knowledge at the end is in range again, so that a further recording is not refused by 2.
   pub recording-in-range : Sound (range p) (knownOf p (r .panel))
-  recording-in-range f =
-      subst⁻¹ (λ (t : Standing). Within (range p f) t) (done .known f)
-      (turn-sound (same? p) (range p) (two p) (move p) Bytes (ranged p) (eventsFrom p start l) (knownOf p k) (carry p start l bytes) (acceptable .in-range) f)
+  recording-in-range = turned-in-range p (eventsFrom p start l) k (r .panel) (done .known) (carry p start l bytes) (acceptable .in-range)
 
   -- "A start that knows more, and contradicts nothing, ends knowing at least as much, with the same values": if it is
   -- in range, its replay is accepted, too.
@@ -77,10 +66,8 @@ module _ (b : ℕ) (p : Part) (named : partOf b ≡ Is p) (k : Panel) (l : List 
           (record { in-range = sound; short = acceptable .short; within = acceptable .within; ends = acceptable .ends })
 
       ends : KnowsAtLeast (knownOf p (r .panel)) (knownOf p (q .panel))
-      ends f v e =
-          d .known f
-          ∙ turn-more (same? p) (range p) (two p) (move p) Bytes (ranged p) (eventsFrom p start l) (knownOf p k) (knownOf p more)
-          (carry p start l bytes) (acceptable .in-range) sound h f v (sym (done .known f) ∙ e)
+      ends =
+          turned-more p (eventsFrom p start l) k (r .panel) (done .known) (carry p start l bytes) (acceptable .in-range) more (q .panel) (d .known) sound h
 
   -- "Where the start knows all settings and the transfer position, and the recording has no gap and no undefined
   -- command, a memory cell is known at the end exactly when every fitting chip ends with the same content there."
@@ -89,6 +76,4 @@ module _ (b : ℕ) (p : Part) (named : partOf b ≡ Is p) (k : Panel) (l : List 
       → (f : Fact p) → IsMemory p f → (v : ℕ)
       → (knownOf p (r .panel) f ≡ known v → AllEnd (range p) (movesFrom p start l) (knownOf p k) f v)
       × (AllEnd (range p) (movesFrom p start l) (knownOf p k) f v → knownOf p (r .panel) f ≡ known v)
-  recording-cells-exact knows gapless defined f _ v =
-      let x = facts-exact p (eventsFrom p start l) (knownOf p k) (carry p start l bytes) (acceptable .in-range) knows gapless defined f v in
-      (λ e. x .0 (sym (done .known f) ∙ e), λ all. done .known f ∙ x .1 all)
+  recording-cells-exact = turned-cells-exact p (eventsFrom p start l) k (r .panel) (done .known) (carry p start l bytes) (acceptable .in-range)

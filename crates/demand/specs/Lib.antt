@@ -1,8 +1,12 @@
 pub mod Recording
 pub mod Bytes
+pub mod Turned
 pub mod Demand
 pub mod Append
 pub mod Gaps
 pub mod Tail
 pub mod Painting
 pub mod Met
+pub mod Packets
+pub mod InPackets
+pub mod TwoPackets

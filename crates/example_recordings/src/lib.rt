@@ -3,3 +3,4 @@ mod example;
 mod memory;
 
 pub use example::Example;
+pub use memory::put;

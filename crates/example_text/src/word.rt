@@ -49,7 +49,7 @@ impl Word {
     }
 
     fn with_digit(mut self, d: u8) -> Word {
-        self.number = self.number % 65536 * 16 + d as usize;
+        self.number = self.number % 268435456 * 16 + d as usize;
         self.with_name(b'0')
     }
 

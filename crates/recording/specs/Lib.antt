@@ -3,3 +3,5 @@ pub mod Walk
 pub mod Laws
 pub mod Steps
 pub mod Append
+pub mod Cut
+pub mod Start

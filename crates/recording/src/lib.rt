@@ -5,6 +5,7 @@ mod kinds;
 mod read;
 
 pub use bodies::bits_allowed;
+pub use bodies::body_of;
 pub use bodies::fourth_allowed;
 pub use bodies::switches_allowed;
 pub use ending::Ending;

@@ -33,7 +33,7 @@ Recordable p e = front p (recorded e) ≡ Is e (length (recorded e))
 -- The record at the front is the first event, whatever stands behind it.
 front-recorded : (p : Part) (e : Event) (l : List ℕ) → Recordable p e → front p (recorded e ++ l) ≡ Is e (length (recorded e))
 front-recorded p e l h =
-    front-append p (recorded e) l e (length (recorded e)) (record-fits p (recorded e) e (length (recorded e)) h .0) h
+    front-append p (recorded e) l (Is e (length (recorded e))) tt (record-fits p (recorded e) e (length (recorded e)) h .0) h
 
 -- A walk goes by the record at the front, with a step left for it.
 walk-next : (n : ℕ) (p : Part) (at : ℕ) (l : List ℕ) (e : Event) (m : ℕ) → length l ≤ n → front p l ≡ Is e m

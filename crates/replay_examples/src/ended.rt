@@ -1,5 +1,5 @@
 // What an example gives.
-use crate::answers;
+use crate::in_words;
 use crate::starts;
 use example_panels::show_known;
 use example_recordings::Example;
@@ -29,7 +29,7 @@ fn run(example: Example, recording: &[u8]) {
     let before = starts::panel(example.known, example.led, example.port);
     let replayed = replays(example.part, before, recording, example.start);
     let answer = replayed.answer;
-    answers::replayed(answer);
+    in_words::replayed(answer);
     let after = replayed.panel;
     show_known(
         example.part,
@@ -38,7 +38,7 @@ fn run(example: Example, recording: &[u8]) {
         example.worded(),
         false,
     );
-    answers::tail(example.part, recording);
+    in_words::tail(example.part, recording);
 }
 
 fn replays(part: u8, before: Panel, recording: &[u8], start: usize) -> Replayed {

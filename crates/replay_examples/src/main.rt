@@ -14,8 +14,8 @@
 // bytes. Memory, keys and addresses are in hex and other numbers in decimal. Memory stands as runs, 00-06=6E, where ?? is unknown; of the other
 // facts only the known ones are there. Where the part byte names no part, or one of the last three words stands in the line, both halves of the
 // knowledge are shown, so that one sees what a refusal leaves as it was.
-mod answers;
 mod ended;
+mod in_words;
 mod starts;
 
 use ended::ended;

@@ -1,0 +1,7 @@
+pub mod Bytes
+pub mod Feed
+pub mod Tests
+pub mod TestLaws
+pub mod Close
+pub mod Laws
+pub mod Unique

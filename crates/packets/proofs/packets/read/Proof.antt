@@ -1,0 +1,37 @@
+-- `packets::packets::read` meets its contract: with nothing unfinished the packet's records are read where they stand, else those that were begun first.
+-- Assumes nothing.
+use native.Mathlib.Omega.{arith}
+use mathlib.Core.Path.{_≡_, refl, sym, ap, _∙_}
+use mathlib.Core.List.{List, _++_}
+use lib.ListN.{length}
+use Prim.Native.Nat.{ℕ}
+use Rattle.feed.specs.Bytes.{bytesOf}
+use Rattle.feed.specs.Laws.{of-none}
+use Rattle.packets.specs.Rows.{row-as}
+use borrow.Author.Needs.{needs}
+use Rattle.packets.proofs.packets.read.Statement.{statement}
+use Rattle.packets.proofs.packets.read.Tie as tie
+
+count-of-requires : tie.Need-count-of-requires
+count-of-requires c κs = search needs
+
+read-from-requires : tie.Need-read-from-requires
+read-from-requires c κs = search needs
+
+returns : tie.Need-returns
+returns c =
+    let a = c .before .before .before .before .before .args in
+    let none = sym (c .before .before .before .count-of .ensures) ∙ c .before .before .if1 .taken in
+    let e = of-none (bytesOf (a .feed .unfinished)) none in
+    row-as (a .part) (a .feed .panel) (omega (arith, none)) refl (ap (λ (u : List ℕ). u ++ a .packet .now) e) (c .read-from .ensures)
+
+read-joined-requires : tie.Need-read-joined-requires
+read-joined-requires c κs = search needs
+
+returns-2 : tie.Need-returns-2
+returns-2 c = search needs
+
+pub read-spec : {M : Type 1} → statement M
+read-spec =
+    tie.close
+    (tie.spec count-of-requires read-from-requires returns read-joined-requires returns-2)

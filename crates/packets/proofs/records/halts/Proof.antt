@@ -1,0 +1,15 @@
+-- `packets::records::halts` meets its contract: the answer is the refusal's, and stands.
+-- Assumes nothing.
+use mathlib.Core.Path.{refl}
+use borrow.Author.Needs.{needs}
+use Rattle.packets.proofs.records.halts.Statement.{statement}
+use Rattle.packets.proofs.records.halts.Tie as tie
+
+refused-requires : tie.Need-refused-requires
+refused-requires c κs = search needs
+
+returns : tie.Need-returns
+returns c = rw (c .refused .ensures) refl
+
+pub halts-spec : {M : Type 1} → statement M
+halts-spec = tie.close (tie.spec refused-requires returns)
