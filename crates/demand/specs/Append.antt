@@ -5,7 +5,7 @@ use Prim.Native.Nat.{ℕ, _+_, _≤_}
 use native.Mathlib.Omega.{arith}
 use mathlib.Core.Path.{_≡_, sym, ap, _∙_}
 use mathlib.Core.List.{List, _++_}
-use lib.ListN.{length, length-append}
+use lib.ListN.{length}
 use Rattle.terms.specs.Part.{partOf}
 use Rattle.terms.specs.declared.Part.{Part}
 use Rattle.terms.specs.declared.PartRead.the-variants.{Is}

@@ -12,7 +12,7 @@ use Rattle.terms.specs.declared.Part.{Part}
 use Rattle.recording.specs.declared.read.Read.{Read}
 use Rattle.recording.specs.declared.read.Read.the-variants.{Is, Refused}
 use Rattle.recording.specs.Record.{listed, belongs, bodyOf, allowed, eventOf, front}
-use Rattle.recording.specs.Walk.{next, stops, walk, walked, events}
+use Rattle.recording.specs.Walk.{next, stops, walk, events}
 use Rattle.whole.specs.Usual.{Each}
 use Rattle.demand.specs.Recording.{AllBytes, eventsFrom}
 

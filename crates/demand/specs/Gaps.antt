@@ -3,7 +3,7 @@
 -- records.
 use Prim.Native.Nat.{ℕ, zero, suc, _+_, _≤_}
 use native.Mathlib.Omega.{arith}
-use mathlib.Core.Path.{_≡_, refl, sym, ap, _∙_, subst}
+use mathlib.Core.Path.{_≡_, refl, sym, ap, _∙_}
 use mathlib.Core.Bool.{Bool, true, false, _||_, true≢false}
 use mathlib.Core.List.{List, [], _∷_, _++_}
 use lib.ListN.{length, drop, getD, length-drop}
@@ -16,11 +16,10 @@ use Rattle.terms.specs.declared.Event.the-variants.{Power, Falls, ByteIn, Rises
 use Rattle.terms.specs.declared.Part.{Part}
 use Rattle.recording.specs.declared.read.Read.{Read}
 use Rattle.recording.specs.declared.read.Read.the-variants.{Is, Refused}
-use Rattle.recording.specs.declared.read.Refusal.{Refusal}
 use Rattle.recording.specs.declared.ending.Ending.{Ending}
 use Rattle.recording.specs.declared.ending.Ending.the-variants.{Done, Stops}
 use Rattle.recording.specs.Record.{listed, belongs, bodyOf, allowed, eventOf, front}
-use Rattle.recording.specs.Walk.{Walk, done, stops, next, walk, walked, events, endOf, onGap, behindGap}
+use Rattle.recording.specs.Walk.{Walk, stops, next, walk, walked, events, endOf, onGap, behindGap}
 use Rattle.recording.specs.Steps.{record-fits, enough}
 use Rattle.recording.specs.Append.{shifted, from-place}
 use Rattle.whole.specs.Sentence.{isGap, hasGap}

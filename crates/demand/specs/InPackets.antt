@@ -3,7 +3,7 @@
 -- and what is left of it decides how closing is answered.
 use Prim.Native.Nat.{ℕ, _+_}
 use native.Mathlib.Omega.{arith}
-use mathlib.Core.Path.{_≡_, refl, sym, ap, _∙_, subst, subst⁻¹}
+use mathlib.Core.Path.{_≡_, refl, ap, _∙_, subst, subst⁻¹}
 use mathlib.Core.Bool.{false}
 use mathlib.Core.List.{List, [], _∷_, _++_, map, append-assoc}
 use lib.ListN.{length, drop, length-append, length-drop}
@@ -29,7 +29,7 @@ use Rattle.recording.specs.declared.read.Refusal.the-variants.{Unlisted, Foreig
 use Rattle.panel.specs.declared.knowledge.Panel.{Panel}
 use Rattle.panel.specs.View.{knownOf, OtherKept}
 use Rattle.answers.specs.declared.Answer.{Answer}
-use Rattle.answers.specs.Answer.{number, place}
+use Rattle.answers.specs.Answer.{number}
 use Rattle.feed.specs.declared.state.Feed.{Feed}
 use Rattle.feed.specs.declared.state.Kept.{Kept}
 use Rattle.feed.specs.declared.state.Kept.the-variants as Stands

@@ -4,7 +4,7 @@
 -- repainted one.
 use Prim.Native.Nat.{ℕ, _≤_}
 use native.Mathlib.Omega.{arith}
-use mathlib.Core.Path.{_≡_, sym, ap, _∙_, subst, subst⁻¹}
+use mathlib.Core.Path.{_≡_, ap, _∙_, subst, subst⁻¹}
 use mathlib.Core.List.{List, map}
 use lib.ListN.{length, take}
 use Rattle.knowing.specs.Standing.{Sound}

@@ -1,12 +1,12 @@
 -- What the tail finder is for: behind its last gap a recording tells all that it tells. The argument: a gap leaves
 -- nothing known, whatever was known before it, and so what the whole recording makes of any start is what the records
 -- behind its last gap make of knowing nothing.
-use Prim.Native.Nat.{ℕ, zero, suc, _+_, _-_, _≤_}
+use Prim.Native.Nat.{ℕ, zero, _+_, _-_}
 use native.Mathlib.Omega.{arith}
 use mathlib.Core.Path.{_≡_, refl, sym, ap, _∙_, subst, subst⁻¹}
 use mathlib.Core.Bool.{true, false}
 use mathlib.Core.List.{List, _∷_, _++_, map, map-append}
-use lib.ListN.{length, drop, take, length-drop}
+use lib.ListN.{length, drop, length-drop}
 use borrow.Author.Tests.{le-ltb}
 use Rattle.rules.specs.Rule.{Rule}
 use Rattle.knowing.specs.Standing.{Standing, unknown, Within, Sound}
@@ -19,14 +19,13 @@ use Rattle.terms.specs.declared.Part.{Part}
 use Rattle.terms.specs.declared.Part.the-variants.{Pt6302, Pt6312, Pt6315}
 use Rattle.terms.specs.declared.PartRead.{PartRead}
 use Rattle.terms.specs.declared.PartRead.the-variants.{Is}
-use Rattle.recording.specs.declared.ending.Ending.{Ending}
 use Rattle.recording.specs.declared.ending.Ending.the-variants.{Done}
-use Rattle.recording.specs.Walk.{walked, events, endOf, behindGap}
+use Rattle.recording.specs.Walk.{walked, events, behindGap}
 use Rattle.parts.specs.Facts.{Fact, same?, range, move}
 use Rattle.panel.specs.declared.knowledge.Panel.{Panel}
 use Rattle.panel.specs.View.{knownOf, KnowsNothing}
 use Rattle.replay.specs.declared.replays.Replayed.{Replayed}
-use Rattle.answers.specs.Answer.{number, place}
+use Rattle.answers.specs.Answer.{number}
 use Rattle.recording.specs.Laws.{part-from}
 use Rattle.replay.specs.Replay.{PartDone, Replays}
 use Rattle.replay.specs.ByPart.{Acceptable, replays-by, accepted, accepts}

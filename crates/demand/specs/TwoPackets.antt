@@ -18,7 +18,7 @@ use Rattle.recording.specs.declared.ending.Ending.the-variants.{Done, Stops}
 use Rattle.recording.specs.declared.read.Refusal.the-variants.{Unlisted, Foreign, CutShort, Forbidden}
 use Rattle.panel.specs.declared.knowledge.Panel.{Panel}
 use Rattle.panel.specs.View.{knownOf}
-use Rattle.answers.specs.Answer.{number, place}
+use Rattle.answers.specs.Answer.{number}
 use Rattle.answers.specs.Unique.{same-answer}
 use Rattle.feed.specs.declared.state.Feed.{Feed}
 use Rattle.feed.specs.declared.state.Kept.the-variants as Stands

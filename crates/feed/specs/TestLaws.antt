@@ -1,6 +1,6 @@
 -- What follows from the tests of a packet: each law goes through the conditions in their order.
 use Prim.Native.Nat.{ℕ}
-use Rattle.rules.specs.Where.{Where, where-not, where-map}
+use Rattle.rules.specs.Where.{where-not, where-map}
 use Rattle.terms.specs.declared.Part.{Part}
 use Rattle.answers.specs.Answer.{number, place}
 use Rattle.feed.specs.declared.state.Feed.{Feed}

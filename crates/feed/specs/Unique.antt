@@ -2,11 +2,8 @@
 -- answer, and a row of up to four bytes has one spelling.
 use mathlib.Core.Path.{_≡_, refl, sym, ap, _∙_}
 use mathlib.Core.List.{List, [], _∷_}
-use lib.ListN.{getD, length}
-use native.Mathlib.Omega.{arith}
-use Prim.Native.Nat.{ℕ, zero, suc}
+use Prim.Native.Nat.{ℕ}
 use Rattle.rules.specs.Where.{where-both}
-use Rattle.terms.specs.declared.Part.{Part}
 use Rattle.terms.specs.declared.PartRead.{PartRead}
 use Rattle.terms.specs.declared.PartRead.the-variants.{Is, Refused}
 use Rattle.answers.specs.declared.Answer.{Answer}
@@ -19,7 +16,7 @@ use Rattle.feed.specs.declared.unfinished.Unfinished.{Unfinished}
 use Rattle.feed.specs.declared.unfinished.Unfinished.the-variants.{None, One, Two, Three, Four}
 use Rattle.feed.specs.Bytes.{bytesOf}
 use Rattle.feed.specs.Tests.{ByKept}
-use Rattle.feed.specs.Close.{Answers, ByLeft, ClosesPart, Closes}
+use Rattle.feed.specs.Close.{Answers, ByLeft, Closes}
 
 -- The spelling of a row, and that it gives every spelling back.
 spelt : List ℕ → Unfinished

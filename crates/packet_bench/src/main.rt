@@ -37,8 +37,11 @@ fn measured(input: &[u8]) -> Sum {
     if input.len() < 3 {
         return Sum(0);
     }
-    let rounds = input[0] as usize + input[1] as usize * 256;
-    summed(rounds, input[2], &input[3..])
+    summed(count(input[0], input[1]), input[2], &input[3..])
+}
+
+fn count(low: u8, high: u8) -> usize {
+    low as usize + high as usize * 256
 }
 
 fn summed(rounds: usize, part: u8, recording: &[u8]) -> Sum {

@@ -6,7 +6,7 @@ use mathlib.Core.Path.{_≡_, refl, sym, ap, _∙_, subst, subst⁻¹}
 use mathlib.Core.Bool.{Bool, true, false}
 use mathlib.Core.List.{List, [], _∷_, _++_}
 use mathlib.Core.Logic.{⊎-elim, _⊎_, inl, inr}
-use lib.ListN.{length, drop, take, getD, length-append, length-drop, take-append-drop}
+use lib.ListN.{length, drop, take, getD, length-append, take-append-drop}
 use lib.Seq.{length-take-le, drop-length, drop-cons, drop-append-add}
 use Rattle.rules.specs.Choice.{whether}
 use Rattle.terms.specs.declared.Event.{Event}
@@ -19,7 +19,6 @@ use Rattle.recording.specs.Cut.{Open, standsAt, leftBy, walked-next, walked-sto
 use Rattle.recording.specs.Start.{CutOff, none, some, Starts, starts, started, body-four}
 use Rattle.recording.specs.declared.ending.Ending.{Ending}
 use Rattle.recording.specs.declared.ending.Ending.the-variants.{Done, Stops}
-use Rattle.recording.specs.declared.read.Read.{Read}
 use Rattle.recording.specs.declared.read.Read.the-variants.{Is, Refused}
 use Rattle.recording.specs.declared.read.Refusal.{Refusal}
 use Rattle.recording.specs.declared.read.Refusal.the-variants.{Unlisted, Foreign, CutShort, Forbidden}
@@ -28,12 +27,12 @@ use Rattle.walks.specs.Turn.{InTurn}
 use Rattle.parts.specs.Facts.{same?, range, move}
 use Rattle.panel.specs.declared.knowledge.Panel.{Panel}
 use Rattle.panel.specs.View.{knownOf, OtherKept}
-use Rattle.answers.specs.Answer.{number, place}
+use Rattle.answers.specs.Answer.{place}
 use Rattle.feed.specs.declared.unfinished.Unfinished.{Unfinished}
 use Rattle.feed.specs.declared.unfinished.Unfinished.the-variants as Left
 use Rattle.feed.specs.Bytes.{bytesOf, firstFive}
 use Rattle.packets.specs.declared.records.Taken.{Taken}
-use Rattle.packets.specs.Takes.{Goes, Halts, ByEnd, ReadsRow, went, halted}
+use Rattle.packets.specs.Takes.{ByEnd, ReadsRow, went, halted}
 use Rattle.packets.specs.Rows.{row-as, other-same, row-on, row-told}
 
 -- The row's end, as code finds it.

@@ -1,10 +1,10 @@
 -- Two answers to one packet are one. The argument: number and place fix the answer, what is known of every fact fixes the
 -- knowledge, and the row, the total and the standing refusal are told in full.
 use Prim.Native.Nat.{ℕ}
-use mathlib.Core.Path.{_≡_, refl, sym, ap, _∙_}
+use mathlib.Core.Path.{_≡_, sym, ap, _∙_}
 use mathlib.Core.List.{List, [], _++_}
-use lib.ListN.{length, drop}
-use Rattle.rules.specs.Where.{Where, where-both}
+use lib.ListN.{drop}
+use Rattle.rules.specs.Where.{where-both}
 use Rattle.terms.specs.declared.Part.{Part}
 use Rattle.terms.specs.declared.PartRead.{PartRead}
 use Rattle.terms.specs.declared.PartRead.the-variants.{Is, Refused}
@@ -14,17 +14,16 @@ use Rattle.recording.specs.declared.ending.Ending.the-variants.{Done, Stops}
 use Rattle.recording.specs.declared.read.Refusal.the-variants.{Unlisted, Foreign, CutShort, Forbidden}
 use Rattle.panel.specs.declared.knowledge.Panel.{Panel}
 use Rattle.panel.specs.Unique.{Shaped, same-panel}
-use Rattle.answers.specs.declared.Answer.{Answer}
 use Rattle.answers.specs.Answer.{number, place}
 use Rattle.answers.specs.Unique.{same-answer}
 use Rattle.feed.specs.declared.state.Feed.{Feed}
 use Rattle.feed.specs.declared.state.Kept.{Kept}
 use Rattle.feed.specs.declared.state.Kept.the-variants as Stands
 use Rattle.feed.specs.Bytes.{bytesOf}
-use Rattle.feed.specs.Tests.{Fits, ByKept}
+use Rattle.feed.specs.Tests.{ByKept}
 use Rattle.feed.specs.Unique.{same-bytes}
 use Rattle.packets.specs.declared.records.Taken.{Taken}
-use Rattle.packets.specs.Takes.{RefusedBy, Goes, Halts, ByEnd, ReadsRow, Reads, Takes}
+use Rattle.packets.specs.Takes.{RefusedBy, Goes, Halts, ByEnd, ReadsRow, Takes}
 
 module _ (r q : Taken) where
   same-taken : r .answer ≡ q .answer → r .feed ≡ q .feed → r ≡ q

@@ -5,8 +5,7 @@ use native.Mathlib.Omega.{arith}
 use mathlib.Core.Path.{_≡_, refl, sym, ap, _∙_, subst⁻¹}
 use mathlib.Core.List.{List, [], _∷_, _++_}
 use mathlib.Core.Bool.{Bool, true, false}
-use lib.ListN.{length, drop, getD, length-drop, length-append}
-use lib.Seq.{drop-append-le}
+use lib.ListN.{length, drop, getD, length-append}
 use lib.Dec.{ltb}
 use borrow.Author.Tests.{ltb-true, lt-ltb}
 use Rattle.rules.specs.Choice.{whether}
@@ -22,7 +21,6 @@ use Rattle.recording.specs.declared.ending.Ending.the-variants.{Done, St
 use Rattle.recording.specs.Record.{listed, belongs, bodyOf, ofBody, ofKind, front}
 use Rattle.recording.specs.Walk.{Walk, next, stops, walk, events, endOf}
 use Rattle.recording.specs.Laws.{other-body}
-use Rattle.recording.specs.Steps.{record-fits}
 
 -- A body is looked at no further than it goes.
 same-body : (p : Part) (k : ℕ) (l m : List ℕ) → ((j : ℕ) → j ≤ bodyOf k → getD l j 0 ≡ getD m j 0) → ofBody p k l ≡ ofBody p k m

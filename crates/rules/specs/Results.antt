@@ -2,7 +2,7 @@
 -- anything; the results are all chips that this leaves open. The argument, fact by fact: where the rule gives a
 -- value, both ask for that value; where it says anything, both ask only for one in range.
 use Prim.Native.Nat.{ℕ, _<_}
-use mathlib.Core.Path.{_≡_, refl, sym, ap, _∙_, subst⁻¹}
+use mathlib.Core.Path.{_≡_, sym, ap, _∙_, subst⁻¹}
 use mathlib.Core.Bool.{Bool, true, false, true≢false}
 use Rattle.rules.specs.Rule.{Rule, Outcome, becomes, anything, run, Told, told, Moves}
 use Rattle.rules.specs.Range.{Good, Ranged, Below, keeps-range}

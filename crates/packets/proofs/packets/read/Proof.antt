@@ -1,9 +1,8 @@
 -- `packets::packets::read` meets its contract: with nothing unfinished the packet's records are read where they stand, else those that were begun first.
 -- Assumes nothing.
 use native.Mathlib.Omega.{arith}
-use mathlib.Core.Path.{_≡_, refl, sym, ap, _∙_}
+use mathlib.Core.Path.{refl, sym, ap, _∙_}
 use mathlib.Core.List.{List, _++_}
-use lib.ListN.{length}
 use Prim.Native.Nat.{ℕ}
 use Rattle.feed.specs.Bytes.{bytesOf}
 use Rattle.feed.specs.Laws.{of-none}

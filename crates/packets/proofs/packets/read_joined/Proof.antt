@@ -2,7 +2,7 @@
 -- Assumes nothing.
 use native.Mathlib.Omega.{arith}
 use Prim.Native.Nat.{ℕ, suc, _+_, _-_, _≤_}
-use mathlib.Core.Path.{_≡_, refl, sym, ap, _∙_, subst, subst⁻¹}
+use mathlib.Core.Path.{_≡_, sym, ap, _∙_, subst, subst⁻¹}
 use mathlib.Core.List.{List, _++_}
 use lib.ListN.{length, take, getD, length-append}
 use lib.Seq.{length-take-le, take-all}
@@ -10,7 +10,7 @@ use Rattle.recording.specs.Record.{bodyOf}
 use Rattle.recording.specs.Start.{Starts, body-four}
 use Rattle.recording.specs.Steps.{stops-within}
 use Rattle.panel_walks.specs.Walks.{Walks}
-use Rattle.feed.specs.Bytes.{bytesOf, firstFive}
+use Rattle.feed.specs.Bytes.{bytesOf}
 use Rattle.feed.specs.Feed.{firstPlace}
 use Rattle.packets.specs.declared.records.Taken.{Taken}
 use Rattle.packets.specs.Takes.{ReadsRow}
