@@ -17,6 +17,13 @@ pub enum Answer {
     Forbidden(Place),
 }
 
+// What tests that come before any record give.
+pub enum Trial {
+    // The records are looked at next.
+    Passed,
+    Refused(Answer),
+}
+
 // The answer to a record that is none.
 pub fn refused(refusal: Refusal, at: Place) -> Answer
     ensures { λ r. ⌜ r ≡ refusedAs refusal at ⌝ }

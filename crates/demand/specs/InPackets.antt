@@ -1,4 +1,4 @@
--- M-100 in the paper's words: a recording that comes in packets, cut by whomever, from any good state in which no refusal
+-- M-100 in the paper's words: a recording that comes in packets, however it is cut, from any good state in which no refusal
 -- stands, where no packet is answered by 4. The argument: packets in turn are the one row that they make (`Packets.in-one`),
 -- and what is left of it decides how closing is answered.
 use Prim.Native.Nat.{ℕ, _+_}
@@ -6,11 +6,13 @@ use native.Mathlib.Omega.{arith}
 use mathlib.Core.Path.{_≡_, refl, ap, _∙_, subst, subst⁻¹}
 use mathlib.Core.Bool.{false}
 use mathlib.Core.List.{List, [], _∷_, _++_, map, append-assoc}
+use mathlib.Core.Logic.{⊎-elim}
 use lib.ListN.{length, drop, length-append, length-drop}
-use Rattle.rules.specs.Where.{where-good}
+use Rattle.rules.specs.Where.{Where, where-good}
+use Rattle.rules.specs.Where.{good as good-fit, bad as bad-fit}
 use Rattle.rules.specs.Range as Ranges
 use Rattle.rules.specs.Turn.{Ends}
-use Rattle.knowing.specs.Standing.{known, Fits, Sound}
+use Rattle.knowing.specs.Standing.{Standing, known, Fits, Sound}
 use Rattle.terms.specs.declared.Place.{Place}
 use Rattle.terms.specs.declared.Part.{Part}
 use Rattle.terms.specs.declared.PartRead.{PartRead}
@@ -21,6 +23,7 @@ use Rattle.parts.specs.Facts.{Fact, same?, range, move}
 use Rattle.recording.specs.Record as Record
 use Rattle.recording.specs.Walk.{walked, events, endOf}
 use Rattle.recording.specs.Steps.{stops-within}
+use Rattle.recording.specs.Start.{none}
 use Rattle.recording.specs.Cut.{standsAt, Open, cut-told}
 use Rattle.recording.specs.declared.ending.Ending.{Ending}
 use Rattle.recording.specs.declared.ending.Ending.the-variants.{Done, Stops}
@@ -29,36 +32,37 @@ use Rattle.recording.specs.declared.read.Refusal.the-variants.{Unlisted, Foreig
 use Rattle.panel.specs.declared.knowledge.Panel.{Panel}
 use Rattle.panel.specs.View.{knownOf, OtherKept}
 use Rattle.answers.specs.declared.Answer.{Answer}
-use Rattle.answers.specs.Answer.{number}
+use Rattle.answers.specs.Answer.{number, place}
 use Rattle.feed.specs.declared.state.Feed.{Feed}
 use Rattle.feed.specs.declared.state.Kept.{Kept}
 use Rattle.feed.specs.declared.state.Kept.the-variants as Stands
 use Rattle.feed.specs.Bytes.{bytesOf}
-use Rattle.feed.specs.Feed.{Good, firstPlace}
-use Rattle.feed.specs.Tests.{ByKept}
+use Rattle.feed.specs.Feed.{Good, opening, firstPlace}
+use Rattle.feed.specs.Tests.{Fits as FitsIn, ByKept}
 use Rattle.feed.specs.Close as Close
-use Rattle.feed.specs.Close.{Answers, ByLeft, ClosesPart, Closes}
+use Rattle.answers.specs.Told.{Answers}
+use Rattle.feed.specs.Close.{ByLeft, ClosesPart, Closes}
 use Rattle.packets.specs.declared.records.Taken.{Taken}
-use Rattle.packets.specs.Takes.{Goes, Halts, ByEnd, ReadsRow}
-use Rattle.packets.specs.Run.{Run, together, started, ending, NoFour, Course, over, goes, halts, AllGo}
+use Rattle.packets.specs.Takes.{RefusedBy, Goes, Halts, ByEnd, ReadsRow, Reads, Takes}
+use Rattle.packets.specs.Run.{Run, together, started, ending, NoFour, AllAnswered, Course, over, goes, halts, AllGo}
 use Rattle.whole.specs.Turns.{Chain, KnowsAtLeast}
 use Rattle.whole.specs.Sentence.{position, StartKnows, hasGap, DefinedOn, NoUndefined, startsFirst, IsMemory, AllEnd}
 use Rattle.demand.specs.Recording.{AllBytes}
 use Rattle.demand.specs.Bytes.{carry}
-use Rattle.demand.specs.Turned.{turned-chain, turned-fits, turned-more, turned-cells-exact}
-use Rattle.demand.specs.Packets.{good-again, place-again, good-halted, in-one}
+use Rattle.demand.specs.Turned.{turned-chain, turned-one-end, turned-in-range, turned-fits, turned-more, turned-cells-exact}
+use Rattle.demand.specs.Packets.{good-again, place-again, good-halted, takes-by, open?, standing-run, in-one}
 
 -- Nothing told against the whole: every packet is answered 0 at its total.
-course-open : (p : Part) (row : List ℕ) (total : ℕ) (ls : List (List ℕ)) (rs : List Taken) (before : ℕ) → Course p row total ls rs before
+course-open : (p : Part) (a : Answer) (row : List ℕ) (total : ℕ) (ls : List (List ℕ)) (rs : List Taken) (before : ℕ) → Course p a row total ls rs before
     → Open (endOf (walked p (row ++ together ls))) → AllGo total ls rs
-course-open p row total ls rs before (over _ _) o = tt
-course-open p row total ls rs before (goes _ _ l ms r qs _ _ z at c) o = (
+course-open p a row total ls rs before (over _ _) o = tt
+course-open p a row total ls rs before (goes _ _ l ms r qs _ _ z at c) o = (
   z,
   at,
-  course-open p (row ++ l) (total + length l) ms qs before c
+  course-open p a (row ++ l) (total + length l) ms qs before c
       (subst⁻¹ (λ (x : List ℕ). Open (endOf (walked p x))) (append-assoc row l (together ms)) o),
 )
-course-open p row total ls rs before (halts _ _ l ms r qs shut all) o =
+course-open p a row total ls rs before (halts _ _ l ms r qs shut all) o =
     absurd (shut (subst Open (cut-told p (row ++ l) (together ms) shut .1)
     (subst⁻¹ (λ (x : List ℕ). Open (endOf (walked p x))) (append-assoc row l (together ms)) o)))
 
@@ -86,7 +90,7 @@ module _ (b : ℕ) (p : Part) (named : partOf b ≡ Is p) (s : Feed) (good : Goo
   abbrev pub all : ℕ
   all = s .total + length (together ls)
 
-  one : (before : ℕ) × Course p (bytesOf (s .unfinished)) (s .total) ls rs before × ReadsRow p (s .panel) (firstPlace s) before all whole last
+  one : (before : ℕ) × Course p (last .answer) (bytesOf (s .unfinished)) (s .total) ls rs before × ReadsRow p (s .panel) (firstPlace s) before all whole last
   one = in-one b p named ls (started s) rs (record { good = good; free = free; numbered = refl; placed = refl }) run never bytes
 
   counts : firstPlace s + length whole ≡ all
@@ -102,7 +106,7 @@ module _ (b : ℕ) (p : Part) (named : partOf b ≡ Is p) (s : Feed) (good : Goo
   by-end e q = subst (λ (x : Ending). ByEnd x (firstPlace s) (one .0) all whole last) q (one .2 .ended)
 
   all-go : (e : Ending) → endOf (walked p whole) ≡ e → Open e → AllGo (s .total) ls rs
-  all-go e q o = course-open p (bytesOf (s .unfinished)) (s .total) ls rs (one .0) (one .1) (subst⁻¹ Open q o)
+  all-go e q o = course-open p (last .answer) (bytesOf (s .unfinished)) (s .total) ls rs (one .0) (one .1) (subst⁻¹ Open q o)
 
   good-last : (e : Ending) → endOf (walked p whole) ≡ e → Open e → Good p (last .feed)
   good-last e q o = good-again p (s .panel) (firstPlace s) (one .0) all whole last (good .in-range) bytes counts (one .2) (subst⁻¹ Open q o)
@@ -112,16 +116,32 @@ module _ (b : ℕ) (p : Part) (named : partOf b ≡ Is p) (s : Feed) (good : Goo
   pub packets-in-turn : Chain (range p) (map (move p) (events (walked p whole))) (knownOf p (s .panel)) (knownOf p (last .feed .panel))
   packets-in-turn = turned-chain p (events (walked p whole)) (s .panel) (last .feed .panel) (known-after .known) (carry p 0 whole bytes) (good .in-range)
 
+  -- And no such chain ends in another knowledge.
+  pub packets-one-end : (q : Fact p → Standing) → Chain (range p) (map (move p) (events (walked p whole))) (knownOf p (s .panel)) q
+      → (f : Fact p) → q f ≡ knownOf p (last .feed .panel) f
+  packets-one-end = turned-one-end p (events (walked p whole)) (s .panel) (last .feed .panel) (known-after .known) (carry p 0 whole bytes) (good .in-range)
+
+  -- What is known at the end is in range again.
+  pub packets-in-range : Sound (range p) (knownOf p (last .feed .panel))
+  packets-in-range = turned-in-range p (events (walked p whole)) (s .panel) (last .feed .panel) (known-after .known) (carry p 0 whole bytes) (good .in-range)
+
   -- A chip that fitted the start fits the end.
   pub packets-fit : (c x : Fact p → ℕ) → Ranges.Good (range p) c → Fits (knownOf p (s .panel)) c → Ends (range p) (map (move p) (events (walked p whole))) c x
       → Fits (knownOf p (last .feed .panel)) x
   packets-fit = turned-fits p (events (walked p whole)) (s .panel) (last .feed .panel) (known-after .known) (carry p 0 whole bytes) (good .in-range)
 
-  -- A start that knows more, and contradicts nothing, ends knowing at least as much, with the same values, whoever cut its packets.
-  pub packets-know-more : (more end : Panel) → KnownAfter p whole more end → Sound (range p) (knownOf p more)
-      → KnowsAtLeast (knownOf p (s .panel)) (knownOf p more) → KnowsAtLeast (knownOf p (last .feed .panel)) (knownOf p end)
-  packets-know-more more end after sound h =
-      turned-more p (events (walked p whole)) (s .panel) (last .feed .panel) (known-after .known) (carry p 0 whole bytes) (good .in-range) more end (after .known) sound h
+  -- A start that knows more, and contradicts nothing, ends knowing at least as much, with the same values, however its packets are
+  -- cut.
+  pub packets-know-more : (t : Feed) (fine : Good p t) (none-stands : t .kept ≡ Stands.None) (ms : List (List ℕ)) (qs : List Taken)
+      → Run (partOf b) t ms qs → NoFour qs → bytesOf (t .unfinished) ++ together ms ≡ whole
+      → KnowsAtLeast (knownOf p (s .panel)) (knownOf p (t .panel))
+      → KnowsAtLeast (knownOf p (last .feed .panel)) (knownOf p (ending (started t) qs .feed .panel))
+  packets-know-more t fine none-stands ms qs again no-four same more =
+      let x = in-one b p named ms (started t) qs (record { good = fine; free = none-stands; numbered = refl; placed = refl }) again no-four (subst⁻¹ AllBytes same bytes) in
+      turned-more p (events (walked p whole)) (s .panel) (last .feed .panel) (known-after .known) (carry p 0 whole bytes) (good .in-range)
+      (t .panel) (ending (started t) qs .feed .panel)
+      (subst (λ (l : List ℕ). InTurn (knownOf p) (same? p) (range p) (move p) (events (walked p l)) (t .panel) (ending (started t) qs .feed .panel)) same (x .2 .known))
+      (fine .in-range) more
 
   -- Where the start knows all settings and the transfer position, and there is no gap and no undefined command, a memory cell is
   -- known at the end exactly when every fitting chip ends with the same content there.
@@ -178,7 +198,7 @@ module _ (b : ℕ) (p : Part) (named : partOf b ≡ Is p) (s : Feed) (good : Goo
     -- same number and place; what is known is what the last good record left, nothing is unfinished, the total is that before
     -- that packet, and closing is answered the same.
     pub packets-refused : (x : Refusal) (at : Place) → endOf (walked p whole) ≡ Stops x at → (Open (Stops x at) → ⊥)
-        → (before : ℕ) × Course p (bytesOf (s .unfinished)) (s .total) ls rs before × KnownAfter p whole (s .panel) (last .feed .panel)
+        → (before : ℕ) × Course p (last .answer) (bytesOf (s .unfinished)) (s .total) ls rs before × KnownAfter p whole (s .panel) (last .feed .panel)
         × Halts (Record.number x) (firstPlace s + at .0) before last × Answers a (Record.number x) (firstPlace s + at .0)
     packets-refused x at q shut = (one .0, one .1, known-after, h, close)
       where
@@ -199,3 +219,37 @@ module _ (b : ℕ) (p : Part) (named : partOf b ≡ Is p) (s : Feed) (good : Goo
         close =
             let k = subst (λ (y : Kept). ByKept y (Answers a) (Answers a 0 (last .feed .total))) (stood .1) (ends-left (last .feed) a [] (h .unfinished) (closed (stood .0))) in
             record { numbered = k .numbered ∙ h .numbered; placed = k .placed ∙ h .placed }
+
+-- The state before the first packet is good, whatever is known within the ranges.
+pub opened-good : (p : Part) (k : Panel) → Sound (range p) (knownOf p k) → Good p (opening k)
+opened-good p k sound = record { in-range = sound; cut-off = none; counted = omega arith; told = tt }
+
+module _ (b : ℕ) (p : Part) (named : partOf b ≡ Is p) where
+  -- From a good state in which a refusal stands: every packet is answered by it, and changes nothing.
+  pub packets-standing : (s : Feed) (a : Answer) → Good p s → s .kept ≡ Stands.Refused a → (ls : List (List ℕ)) (rs : List Taken)
+      → Run (partOf b) s ls rs → AllAnswered a rs × (ending (record { answer = a; feed = s }) rs ≡ record { answer = a; feed = s })
+  packets-standing s a good kept ls rs run = standing-run b p named ls (record { answer = a; feed = s }) rs good kept run
+
+  -- A packet leaves a good state good, whatever its answer.
+  pub packet-good : (s : Feed) (l : List ℕ) (r : Taken) → Good p s → AllBytes (bytesOf (s .unfinished) ++ l) → Takes (partOf b) s l r → Good p (r .feed)
+  packet-good s l r good bytes met = by (s .kept) (where-good good (takes-by (partOf b) p s l r named met))
+    where
+      counts : firstPlace s + length (bytesOf (s .unfinished) ++ l) ≡ s .total + length l
+      counts =
+          let a = length-append (bytesOf (s .unfinished)) l in
+          let c = good .counted in
+          omega (arith, a, c)
+
+      unchanged : (n at : ℕ) → RefusedBy n at s r → Good p (r .feed)
+      unchanged n at h = subst⁻¹ (Good p) (h .kept) good
+
+      read : Reads p s l r → Good p (r .feed)
+      read h =
+          ⊎-elim (λ o. good-again p (s .panel) (firstPlace s) (s .total) (s .total + length l) (bytesOf (s .unfinished) ++ l) r (good .in-range) bytes counts h o)
+          (λ shut. good-halted p (s .panel) (firstPlace s) (s .total) (s .total + length l) (bytesOf (s .unfinished) ++ l) r (good .in-range) bytes counts h shut .0)
+          (open? (endOf (walked p (bytesOf (s .unfinished) ++ l))))
+
+      by : (k : Kept) → ByKept k (λ n at. RefusedBy n at s r) (Where (FitsIn (s .total) (length l)) (Reads p s l r) (RefusedBy 4 0 s r)) → Good p (r .feed)
+      by Stands.None (good-fit fits h) = read h
+      by Stands.None (bad-fit no-way h) = unchanged 4 0 h
+      by (Stands.Refused a) h = unchanged (number a) (place a) h

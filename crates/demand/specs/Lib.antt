@@ -9,4 +9,5 @@ pub mod Painting
 pub mod Met
 pub mod Packets
 pub mod InPackets
+pub mod NoFour
 pub mod TwoPackets

@@ -123,11 +123,19 @@ pub takes-by : (q : PartRead) (p : Part) (s : Feed) (l : List ℕ) (r : Taken) �
 takes-by q p s l r e h = subst (λ (x : PartRead). Takes x s l r) e h
 
 -- Of a good state with no standing refusal, where the answer is not 4.
+past-tests : (p : Part) (s : Feed) (l : List ℕ) (r : Taken) → Good p s → s .kept ≡ Stands.None → (number (r .answer) ≡ 4 → ⊥) → TakesPart p s l r
+    → Fits (s .total) (length l) × Reads p s l r
+past-tests p s l r good free never h =
+    let fits = subst (λ (k : Kept). ByKept k (λ n at. RefusedBy n at s r) (Where (Fits (s .total) (length l)) (Reads p s l r) (RefusedBy 4 0 s r))) free (where-good good h) in
+    where-not (λ four. never (four .numbered)) fits
+
+pub to-fits : (p : Part) (s : Feed) (l : List ℕ) (r : Taken) → Good p s → s .kept ≡ Stands.None → (number (r .answer) ≡ 4 → ⊥) → TakesPart p s l r
+    → Fits (s .total) (length l)
+to-fits p s l r good free never h = past-tests p s l r good free never h .0
+
 pub to-records : (p : Part) (s : Feed) (l : List ℕ) (r : Taken) → Good p s → s .kept ≡ Stands.None → (number (r .answer) ≡ 4 → ⊥) → TakesPart p s l r
     → Reads p s l r
-to-records p s l r good free never h =
-    let fits = subst (λ (k : Kept). ByKept k (λ n at. RefusedBy n at s r) (Where (Fits (s .total) (length l)) (Reads p s l r) (RefusedBy 4 0 s r))) free (where-good good h) in
-    where-not (λ four. never (four .numbered)) fits .1
+to-records p s l r good free never h = past-tests p s l r good free never h .1
 
 -- Of a good state with a standing refusal.
 to-standing : (p : Part) (s : Feed) (l : List ℕ) (r : Taken) (a : Answer) → Good p s → s .kept ≡ Stands.Refused a → TakesPart p s l r
@@ -140,7 +148,7 @@ same-taken : (x y : Taken) → x .answer ≡ y .answer → x .feed ≡ y .feed �
 same-taken x y a f = λ i. record { answer = a i; feed = f i }
 
 -- Either nothing is told against the bytes, or a refusal is.
-open? : (e : Ending) → Open e ⊎ (Open e → ⊥)
+pub open? : (e : Ending) → Open e ⊎ (Open e → ⊥)
 open? Done = inl tt
 open? (Stops Unlisted at) = inr (λ o. o)
 open? (Stops Foreign at) = inr (λ o. o)
@@ -154,20 +162,20 @@ shut-as : (n : ℕ) (e d : Ending) → d ≡ shifted n e → (Open e → ⊥) �
 shut-as n e d q shut o = shut (open-back n e (subst Open q o))
 
 -- A course behind a row is one behind any row that goes on as that one does.
-course-on : (p : Part) (row v : List ℕ) (total : ℕ) (ls : List (List ℕ)) (rs : List Taken) (before : ℕ)
+course-on : (p : Part) (a : Answer) (row v : List ℕ) (total : ℕ) (ls : List (List ℕ)) (rs : List Taken) (before : ℕ)
     → ((m : List ℕ) → (n : ℕ) × (endOf (walked p (row ++ m)) ≡ shifted n (endOf (walked p (v ++ m)))))
-    → Course p v total ls rs before → Course p row total ls rs before
-course-on p row v total ls rs before same (over _ _) = over row _
-course-on p row v total ls rs before same (goes _ _ l ms r qs _ o z at c) =
+    → Course p a v total ls rs before → Course p a row total ls rs before
+course-on p a row v total ls rs before same (over _ _) = over row _
+course-on p a row v total ls rs before same (goes _ _ l ms r qs _ o z at c) =
     let (n, q) = same l in
     goes row total l ms r qs before (open-as n (endOf (walked p (v ++ l))) (endOf (walked p (row ++ l))) q o) z at
-    (course-on p (row ++ l) (v ++ l) (total + length l) ms qs before (λ m. on m) c)
+    (course-on p a (row ++ l) (v ++ l) (total + length l) ms qs before (λ m. on m) c)
   where
     on : (m : List ℕ) → (n : ℕ) × (endOf (walked p ((row ++ l) ++ m)) ≡ shifted n (endOf (walked p ((v ++ l) ++ m))))
     on m =
         let (n, q) = same (l ++ m) in
         (n, ap (λ (x : List ℕ). endOf (walked p x)) (append-assoc row l m) ∙ q ∙ ap (λ (x : List ℕ). shifted n (endOf (walked p x))) (sym (append-assoc v l m)))
-course-on p row v total ls rs before same (halts _ _ l ms r qs shut all) =
+course-on p a row v total ls rs before same (halts _ _ l ms r qs shut all) =
     let (n, q) = same l in
     halts row total l ms r qs (shut-as n (endOf (walked p (v ++ l))) (endOf (walked p (row ++ l))) q shut) all
 
@@ -202,7 +210,7 @@ no-packets p x h = by (bytesOf (x .feed .unfinished)) (h .good .cut-off) refl
 
 module _ (b : ℕ) (p : Part) (named : partOf b ≡ Is p) where
   -- Every packet behind a refusal is answered by it, and changes nothing.
-  standing-run : (ls : List (List ℕ)) (x : Taken) (rs : List Taken) → Good p (x .feed) → x .feed .kept ≡ Stands.Refused (x .answer)
+  pub standing-run : (ls : List (List ℕ)) (x : Taken) (rs : List Taken) → Good p (x .feed) → x .feed .kept ≡ Stands.Refused (x .answer)
       → Run (partOf b) (x .feed) ls rs → AllAnswered (x .answer) rs × (ending x rs ≡ x)
   standing-run [] x [] good kept run = (tt, refl)
   standing-run [] x (r ∷ rs) good kept run = absurd run
@@ -216,7 +224,7 @@ module _ (b : ℕ) (p : Part) (named : partOf b ≡ Is p) where
   -- The packets in turn, and the row that they make.
   abbrev pub InOne : Taken → List (List ℕ) → List Taken → Type 0
   InOne x ls rs =
-      (before : ℕ) × Course p (bytesOf (x .feed .unfinished)) (x .feed .total) ls rs before
+      (before : ℕ) × Course p (ending x rs .answer) (bytesOf (x .feed .unfinished)) (x .feed .total) ls rs before
       × ReadsRow p (x .feed .panel) (firstPlace (x .feed)) before (x .feed .total + length (together ls)) (bytesOf (x .feed .unfinished) ++ together ls) (ending x rs)
 
   -- One packet more in front.
@@ -254,7 +262,7 @@ module _ (b : ℕ) (p : Part) (named : partOf b ≡ Is p) where
         let (good, kept) = good-halted p (s .panel) (firstPlace s) (s .total) (s .total + length l) R r (h .good .in-range) row-bytes counts read shut in
         let (all, ends) = standing-run ls r rs good kept run in (
           s .total,
-          halts (bytesOf (s .unfinished)) (s .total) l ls r rs shut all,
+          halts (bytesOf (s .unfinished)) (s .total) l ls r rs shut (sym (ap (λ (y : Taken). y .answer) ends), subst⁻¹ (λ (y : Taken). AllAnswered (y .answer) rs) ends all),
           subst⁻¹ (ReadsRow p (s .panel) (firstPlace s) (s .total) (s .total + length (l ++ T)) (bytesOf (s .unfinished) ++ (l ++ T))) ends
               (row-as p (s .panel) refl refl in-row (row-told p (s .panel) (firstPlace s) (s .total) (s .total + length l) (s .total + length (l ++ T)) R T r shut read)),
         )
@@ -279,8 +287,8 @@ module _ (b : ℕ) (p : Part) (named : partOf b ≡ Is p) where
       goes-on (before, course, row) = (
         before,
         goes (bytesOf (s .unfinished)) (s .total) l ls r rs before o (gone .numbered) (gone .placed)
-            (course-on p R (bytesOf (r .feed .unfinished)) (s .total + length l) ls rs before follows
-            (subst (λ (t : ℕ). Course p (bytesOf (r .feed .unfinished)) t ls rs before) (gone .counted) course)),
+            (course-on p (ending r rs .answer) R (bytesOf (r .feed .unfinished)) (s .total + length l) ls rs before follows
+            (subst (λ (t : ℕ). Course p (ending r rs .answer) (bytesOf (r .feed .unfinished)) t ls rs before) (gone .counted) course)),
         row-as p (s .panel) refl refl in-row
             (row-on p (s .panel) (r .feed .panel) (firstPlace s) before (s .total + length (l ++ T)) R T (ending r rs) (read .known) (read .kept) o
             (row-as p (r .feed .panel) (place-again p (s .panel) (firstPlace s) (s .total) (s .total + length l) R r (h .good .in-range) row-bytes counts read o) (ap (λ (t : ℕ). t + length T) (gone .counted) ∙ sum) (sym left-row) row)),

@@ -1,38 +1,47 @@
 -- Two packets in turn are the one packet that they make together, where that is allowed; and packets are the replay of the
 -- whole. The argument: both are told by the same row (`Packets.in-one`), and what a row's end says fixes all but the total
 -- after a refusal, which is that before the packet.
-use Prim.Native.Nat.{ℕ, _+_}
+use Prim.Native.Nat.{ℕ, _+_, _≤_}
 use native.Mathlib.Omega.{arith}
 use mathlib.Core.Path.{_≡_, refl, sym, ap, _∙_, subst}
 use mathlib.Core.List.{List, [], _∷_, _++_, append-nil}
-use lib.ListN.{length, drop}
+use lib.ListN.{length, drop, length-append}
+use Rattle.terms.specs.declared.Place.{Place}
 use Rattle.terms.specs.declared.Part.{Part}
 use Rattle.terms.specs.declared.PartRead.the-variants.{Is}
 use Rattle.terms.specs.Part.{partOf}
-use Rattle.parts.specs.Facts.{Fact}
-use Rattle.recording.specs.Walk.{walked, endOf}
+use Rattle.knowing.specs.Standing.{Sound}
+use Rattle.parts.specs.Facts.{Fact, range}
+use Rattle.recording.specs.Record as Record
+use Rattle.recording.specs.Walk.{walked, events, endOf}
 use Rattle.recording.specs.Cut.{Open}
-use Rattle.recording.specs.Start.{none}
 use Rattle.recording.specs.declared.ending.Ending.{Ending}
 use Rattle.recording.specs.declared.ending.Ending.the-variants.{Done, Stops}
+use Rattle.recording.specs.declared.read.Refusal.{Refusal}
 use Rattle.recording.specs.declared.read.Refusal.the-variants.{Unlisted, Foreign, CutShort, Forbidden}
 use Rattle.panel.specs.declared.knowledge.Panel.{Panel}
 use Rattle.panel.specs.View.{knownOf}
+use Rattle.answers.specs.declared.Answer.{Answer}
 use Rattle.answers.specs.Answer.{number}
+use Rattle.answers.specs.Told.{Answers}
 use Rattle.answers.specs.Unique.{same-answer}
 use Rattle.feed.specs.declared.state.Feed.{Feed}
 use Rattle.feed.specs.declared.state.Kept.the-variants as Stands
 use Rattle.feed.specs.Bytes.{bytesOf}
 use Rattle.feed.specs.Feed.{Good, opening, firstPlace}
+use Rattle.feed.specs.Tests.{Fits}
+use Rattle.feed.specs.Close.{Closes}
 use Rattle.packets.specs.declared.records.Taken.{Taken}
 use Rattle.packets.specs.Takes.{Goes, Halts, ByEnd, ReadsRow, Takes}
 use Rattle.packets.specs.Rows.{row-as}
 use Rattle.packets.specs.Run.{Run, together, started, ending, NoFour}
 use Rattle.replay.specs.declared.replays.Replayed.{Replayed}
-use Rattle.replay.specs.Replay.{Replays}
-use Rattle.replay.specs.ByPart.{replays-by, accepted}
+use Rattle.replay.specs.Replay.{RefusedBy, PartDone, ByEnding, Replays}
+use Rattle.replay.specs.ByPart.{replays-by, accepted, passed}
 use Rattle.demand.specs.Recording.{AllBytes}
-use Rattle.demand.specs.Packets.{takes-by, to-records, in-one}
+use Rattle.demand.specs.Packets.{takes-by, to-fits, to-records, in-one}
+use Rattle.demand.specs.NoFour.{not-four, total-within}
+use Rattle.demand.specs.InPackets.{opened-good, packets-accepted, packets-refused, packets-cut-short}
 
 -- The same answer, unfinished bytes and standing refusal.
 pub record SameButTotal (q t : Taken) : Type 0 where
@@ -68,17 +77,32 @@ module _ (b : ℕ) (p : Part) (named : partOf b ≡ Is p) (s : Feed) (good : Goo
   -- Two packets, and the one that they make: the same answer to the last, the same is known of every fact, the same is unfinished
   -- and stands, and, where nothing is told against them, the total is the same.
   pub two-as-one : (l m : List ℕ) (r q t : Taken) → Takes (partOf b) s l r → Takes (partOf b) (r .feed) m q → Takes (partOf b) s (l ++ m) t
-      → NoFour (r ∷ q ∷ t ∷ []) → AllBytes (bytesOf (s .unfinished) ++ (l ++ m))
+      → (number (t .answer) ≡ 4 → ⊥) → AllBytes (bytesOf (s .unfinished) ++ (l ++ m))
       → SameButTotal q t × ((f : Fact p) → knownOf p (q .feed .panel) f ≡ knownOf p (t .feed .panel) f)
       × (Open (endOf (walked p (bytesOf (s .unfinished) ++ (l ++ m)))) → q .feed .total ≡ t .feed .total)
   two-as-one l m r q t first second both never bytes = (e .0, (λ f. turn .known f ∙ sym (once .known f)), e .1)
     where
+      -- What the one packet may have, its two parts may.
+      room : Fits (s .total) (length (l ++ m))
+      room = to-fits p s (l ++ m) t good free never (takes-by (partOf b) p s (l ++ m) t named both)
+
+      sum : length (l ++ m) ≡ length l + length m
+      sum = length-append l m
+
+      no-r : number (r .answer) ≡ 4 → ⊥
+      no-r = not-four p s l r (record { packet = omega (arith, room .packet, sum); whole = omega (arith, room .whole, sum) }) (takes-by (partOf b) p s l r named first)
+
+      no-q : number (q .answer) ≡ 4 → ⊥
+      no-q =
+          let w = total-within p s l r (takes-by (partOf b) p s l r named first) in
+          not-four p (r .feed) m q (record { packet = omega (arith, room .packet, sum); whole = omega (arith, room .whole, sum, w) }) (takes-by (partOf b) p (r .feed) m q named second)
+
       row : l ++ (m ++ []) ≡ l ++ m
       row = ap (λ (x : List ℕ). l ++ x) (append-nil m)
 
       inOne : (before : ℕ) × ReadsRow p (s .panel) (firstPlace s) before (s .total + length (l ++ m)) (bytesOf (s .unfinished) ++ (l ++ m)) q
       inOne =
-          let x = in-one b p named (l ∷ m ∷ []) (started s) (r ∷ q ∷ []) (record { good = good; free = free; numbered = refl; placed = refl }) (first, (second, tt)) (never .0, (never .1 .0, tt))
+          let x = in-one b p named (l ∷ m ∷ []) (started s) (r ∷ q ∷ []) (record { good = good; free = free; numbered = refl; placed = refl }) (first, (second, tt)) (no-r, (no-q, tt))
           (subst (λ (y : List ℕ). AllBytes (bytesOf (s .unfinished) ++ y)) (sym row) bytes) in
           (x .0, row-as p (s .panel) refl (ap (λ (y : List ℕ). s .total + length y) row) (ap (λ (y : List ℕ). bytesOf (s .unfinished) ++ y) row) (x .2))
 
@@ -86,7 +110,7 @@ module _ (b : ℕ) (p : Part) (named : partOf b ≡ Is p) (s : Feed) (good : Goo
       turn = inOne .1
 
       once : ReadsRow p (s .panel) (firstPlace s) (s .total) (s .total + length (l ++ m)) (bytesOf (s .unfinished) ++ (l ++ m)) t
-      once = to-records p s (l ++ m) t good free (never .1 .1 .0) (takes-by (partOf b) p s (l ++ m) t named both)
+      once = to-records p s (l ++ m) t good free never (takes-by (partOf b) p s (l ++ m) t named both)
 
       e : SameButTotal q t × (Open (endOf (walked p (bytesOf (s .unfinished) ++ (l ++ m)))) → q .feed .total ≡ t .feed .total)
       e = same-end q t (firstPlace s) (inOne .0) (s .total) (s .total + length (l ++ m)) (bytesOf (s .unfinished) ++ (l ++ m)) (endOf (walked p (bytesOf (s .unfinished) ++ (l ++ m)))) (turn .ended) (once .ended)
@@ -101,8 +125,31 @@ module _ (b : ℕ) (p : Part) (named : partOf b ≡ Is p) (k : Panel) (ls : List
       → (last .answer ≡ z .answer) × ((f : Fact p) → knownOf p (last .feed .panel) f ≡ knownOf p (z .panel) f)
   packets-as-replay z replayed nought =
       let (fine, done) = accepted p k (together ls) 0 z (replays-by k (together ls) 0 z (partOf b) p named replayed) nought in
-      let start : Good p (opening k) = record { in-range = fine .in-range; cut-off = none; counted = omega arith; told = tt } in
+      let start = opened-good p k (fine .in-range) in
       let x = in-one b p named ls (started (opening k)) rs (record { good = start; free = refl; numbered = refl; placed = refl }) run never bytes in
       let e : Goes (0 + length (together ls)) [] last = subst (λ (y : Ending). ByEnd y 0 (x .0) (0 + length (together ls)) (together ls) last) (fine .ends) (x .2 .ended) in
       let n : 0 + length (together ls) ≡ length (together ls) = omega arith in
       (same-answer (last .answer) (z .answer) (e .numbered ∙ sym (done .numbered)) (e .placed ∙ n ∙ sym (done .placed)), λ f. x .2 .known f ∙ sym (done .known f))
+
+  -- Closing is answered as the replay of the whole, done or refused, where its length is allowed and the start is in range.
+  pub closing-as-replay : Sound (range p) (knownOf p k) → length (together ls) ≤ 65535 → (a : Answer) → Closes (partOf b) (last .feed) a
+      → (z : Replayed) → Replays (partOf b) k (together ls) 0 z → a ≡ z .answer
+  closing-as-replay sound short a closing z replayed =
+      by (endOf (walked p (together ls))) refl
+      (passed p k (together ls) 0 z (replays-by k (together ls) 0 z (partOf b) p named replayed) sound short (omega arith))
+    where
+      refused : (x : Refusal) (at : Place) → Answers a (Record.number x) (0 + at .0) → RefusedBy (Record.number x) (0 + at .0) k z → a ≡ z .answer
+      refused x at c d = same-answer a (z .answer) (c .numbered ∙ sym (d .numbered)) (c .placed ∙ sym (d .placed))
+
+      told : (x : Refusal) (at : Place) → endOf (walked p (together ls)) ≡ Stops x at → (Open (Stops x at) → ⊥) → Answers a (Record.number x) (0 + at .0)
+      told x at q shut = packets-refused b p named (opening k) (opened-good p k sound) refl ls rs run never bytes a closing x at q shut .4
+
+      by : (e : Ending) → endOf (walked p (together ls)) ≡ e → ByEnding e 0 k z (PartDone p (events (walked p (together ls))) k (together ls) z) → a ≡ z .answer
+      by Done q d =
+          let c = packets-accepted b p named (opening k) (opened-good p k sound) refl ls rs run never bytes a closing q .3 in
+          let n : 0 + length (together ls) ≡ length (together ls) = omega arith in
+          same-answer a (z .answer) (c .numbered ∙ sym (d .numbered)) (c .placed ∙ n ∙ sym (d .placed))
+      by (Stops Unlisted at) q d = refused Unlisted at (told Unlisted at q (λ o. o)) d
+      by (Stops Foreign at) q d = refused Foreign at (told Foreign at q (λ o. o)) d
+      by (Stops CutShort at) q d = refused CutShort at (packets-cut-short b p named (opening k) (opened-good p k sound) refl ls rs run never bytes a closing at q .3) d
+      by (Stops Forbidden at) q d = refused Forbidden at (told Forbidden at q (λ o. o)) d

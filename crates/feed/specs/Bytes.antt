@@ -12,7 +12,7 @@ bytesOf (Two a b) = a ∷ b ∷ []
 bytesOf (Three a b c) = a ∷ b ∷ c ∷ []
 bytesOf (Four a b c d) = a ∷ b ∷ c ∷ d ∷ []
 
--- The first bytes of a row, with noughts where it has no more.
+-- The first four bytes of a row, with noughts where it has no more; and the first five, as long as the longest record.
 abbrev pub rowOf : List ℕ → List ℕ
 rowOf l = getD l 0 0 ∷ getD l 1 0 ∷ getD l 2 0 ∷ getD l 3 0 ∷ []
 

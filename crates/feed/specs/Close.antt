@@ -1,22 +1,17 @@
 -- Closing (M-100): number 7 at the first byte of an unfinished record, otherwise 0 at the total, or the standing refusal. 1
 -- and 2 come first.
 use Prim.Native.Nat.{ℕ}
-use mathlib.Core.Path.{_≡_}
 use mathlib.Core.List.{List, [], _∷_}
 use Rattle.rules.specs.Where.{Where}
 use Rattle.terms.specs.declared.Part.{Part}
 use Rattle.terms.specs.declared.PartRead.{PartRead}
 use Rattle.terms.specs.declared.PartRead.the-variants.{Is, Refused}
 use Rattle.answers.specs.declared.Answer.{Answer}
-use Rattle.answers.specs.Answer.{number, place}
+use Rattle.answers.specs.Told.{Answers}
 use Rattle.feed.specs.declared.state.Feed.{Feed}
 use Rattle.feed.specs.Bytes.{bytesOf}
 use Rattle.feed.specs.Feed.{Good, firstPlace}
 use Rattle.feed.specs.Tests.{ByKept}
-
-pub record Answers (a : Answer) (n at : ℕ) : Type 0 where
-  pub numbered : number a ≡ n
-  pub placed : place a ≡ at
 
 -- By what is unfinished.
 abbrev pub ByLeft : List ℕ → Feed → Answer → Type 0

@@ -8,6 +8,7 @@ use Rattle.terms.specs.declared.PartRead.{PartRead}
 use Rattle.terms.specs.declared.PartRead.the-variants.{Is, Refused}
 use Rattle.answers.specs.declared.Answer.{Answer}
 use Rattle.answers.specs.Answer.{number, place}
+use Rattle.answers.specs.Told.{Answers}
 use Rattle.answers.specs.Unique.{same-answer}
 use Rattle.feed.specs.declared.state.Feed.{Feed}
 use Rattle.feed.specs.declared.state.Kept.{Kept}
@@ -16,7 +17,7 @@ use Rattle.feed.specs.declared.unfinished.Unfinished.{Unfinished}
 use Rattle.feed.specs.declared.unfinished.Unfinished.the-variants.{None, One, Two, Three, Four}
 use Rattle.feed.specs.Bytes.{bytesOf}
 use Rattle.feed.specs.Tests.{ByKept}
-use Rattle.feed.specs.Close.{Answers, ByLeft, Closes}
+use Rattle.feed.specs.Close.{ByLeft, Closes}
 
 -- The spelling of a row, and that it gives every spelling back.
 spelt : List ℕ → Unfinished

@@ -9,7 +9,6 @@ pub use close::closed;
 pub use state::Feed;
 pub use state::Kept;
 pub use state::opened;
-pub use tests::Trial;
 pub use tests::tried;
 pub use unfinished::Unfinished;
 pub use unfinished::count_of;

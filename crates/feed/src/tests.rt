@@ -5,6 +5,7 @@ use crate::unfinished::Unfinished;
 use crate::unfinished::count_of;
 use crate::unfinished::row_of;
 use answers::Answer;
+use answers::Trial;
 use answers::told_of;
 use panel_ranges::in_range;
 use recording::Read;
@@ -20,12 +21,6 @@ ghost use Rattle.feed.specs.Bytes.{bytesOf};
 ghost use Rattle.feed.specs.Feed.{MayStand, Good};
 ghost use Rattle.feed.specs.Tests.{Fitting, Tries};
 
-pub enum Trial {
-    // The records are looked at next.
-    Passed,
-    Refused(Answer),
-}
-
 pub fn tried(part: Part, feed: Feed, length: usize) -> Trial
     ensures { λ r. ⌜ Tries part feed length r ⌝ }
 {
@@ -34,9 +29,10 @@ pub fn tried(part: Part, feed: Feed, length: usize) -> Trial
     }
     let kept = feed.kept;
     let total = feed.total;
+    let fit = fits(total, length);
     match kept {
         Kept::Refused(answer) => Trial::Refused(answer),
-        Kept::None => fits(total, length),
+        Kept::None => fit,
     }
 }
 

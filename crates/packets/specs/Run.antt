@@ -26,7 +26,7 @@ abbrev pub together : List (List ℕ) → List ℕ
 together [] = []
 together (l ∷ ls) = l ++ together ls
 
--- Before the first packet: number 0 at the total.
+-- What stands for the last answer where there is no packet: number 0 at the total. No call gave it.
 abbrev pub started : Feed → Taken
 started s = record { answer = Done (record { 0 = s .total }); feed = s }
 
@@ -40,21 +40,21 @@ abbrev pub NoFour : List Taken → Type 0
 NoFour [] = Unit
 NoFour (r ∷ rs) = (number (r .answer) ≡ 4 → ⊥) × NoFour rs
 
--- Every one is answered as the first was.
+-- Every one is answered by a.
 abbrev pub AllAnswered : Answer → List Taken → Type 0
 AllAnswered a [] = Unit
 AllAnswered a (r ∷ rs) = (r .answer ≡ a) × AllAnswered a rs
 
 -- The course of the answers to packets that follow a row of bytes, whose total is `total`: each is 0 at its total, as long
--- as nothing is told against the bytes up to its end; the packet that lets a refusal be told is answered by it, and so is
--- every later one. `before` is the total at the end.
-pub data Course (p : Part) : (row : List ℕ) (total : ℕ) → List (List ℕ) → List Taken → (before : ℕ) → Type 0 where
-  over : (row : List ℕ) (total : ℕ) → Course p row total [] [] total
+-- as no record of the bytes up to its end is refused; the packet that lets a refusal be told is answered by a, and so is
+-- every later one. `before` is the total before that packet, or at the end.
+pub data Course (p : Part) (a : Answer) : (row : List ℕ) (total : ℕ) → List (List ℕ) → List Taken → (before : ℕ) → Type 0 where
+  over : (row : List ℕ) (total : ℕ) → Course p a row total [] [] total
   goes : (row : List ℕ) (total : ℕ) (l : List ℕ) (ls : List (List ℕ)) (r : Taken) (rs : List Taken) (before : ℕ) → Open (endOf (walked p (row ++ l)))
-      → number (r .answer) ≡ 0 → place (r .answer) ≡ total + length l → Course p (row ++ l) (total + length l) ls rs before
-      → Course p row total (l ∷ ls) (r ∷ rs) before
+      → number (r .answer) ≡ 0 → place (r .answer) ≡ total + length l → Course p a (row ++ l) (total + length l) ls rs before
+      → Course p a row total (l ∷ ls) (r ∷ rs) before
   halts : (row : List ℕ) (total : ℕ) (l : List ℕ) (ls : List (List ℕ)) (r : Taken) (rs : List Taken) → (Open (endOf (walked p (row ++ l))) → ⊥)
-      → AllAnswered (r .answer) rs → Course p row total (l ∷ ls) (r ∷ rs) total
+      → AllAnswered a (r ∷ rs) → Course p a row total (l ∷ ls) (r ∷ rs) total
 
 -- Every packet is answered 0 at its total.
 abbrev pub AllGo : ℕ → List (List ℕ) → List Taken → Type 0

@@ -33,7 +33,7 @@ pub record RefusedBy (n at : ℕ) (s : Feed) (r : Taken) : Type 0 where
   pub placed : place (r .answer) ≡ at
   pub kept : r .feed ≡ s
 
--- Number 0 at the total, which counts all bytes of the packet; `left` is unfinished, and no refusal stands.
+-- Number 0 at the total, which now counts the packet's bytes, too; `left` is unfinished, and no refusal stands.
 pub record Goes (total : ℕ) (left : List ℕ) (r : Taken) : Type 0 where
   pub numbered : number (r .answer) ≡ 0
   pub placed : place (r .answer) ≡ total

@@ -4,8 +4,8 @@ use crate::records::halts;
 use crate::records::read_from;
 use crate::records::went_on;
 use answers::Answer;
+use answers::Trial;
 use feed::Feed;
-use feed::Trial;
 use feed::count_of;
 use feed::held;
 use feed::joined;
@@ -80,6 +80,11 @@ fn read_joined(part: Part, feed: Feed, packet: &[u8]) -> Taken
     let after = walked.panel;
     match ending {
         Ending::Done => read_from(part, after, total, packet, whole - had),
-        Ending::Stops(refusal, at) => halts(after, total, refusal, total as usize - had + at.0),
+        Ending::Stops(refusal, at) => halts(
+            after,
+            total as usize,
+            refusal,
+            total as usize - had + at.0,
+        ),
     }
 }

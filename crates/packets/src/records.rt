@@ -30,18 +30,21 @@ pub fn read_from(part: Part, panel: Panel, total: u32, packet: &[u8], from: usiz
     let walked = panel_walk(part, panel, &packet[from..]);
     let ending = walked.ending;
     let after = walked.panel;
+    let before = total as usize;
+    let sum = before + packet.len();
     match ending {
-        Ending::Done => went_on(after, Unfinished::None, total as usize + packet.len()),
+        Ending::Done => went_on(after, Unfinished::None, sum),
         Ending::Stops(refusal, at) => {
             let first = from + at.0;
+            let place = before + first;
             match refusal {
                 Refusal::CutShort => {
                     let unfinished = held(&packet[first..]);
-                    went_on(after, unfinished, total as usize + packet.len())
+                    went_on(after, unfinished, sum)
                 }
-                Refusal::Unlisted => halts(after, total, refusal, total as usize + first),
-                Refusal::Foreign => halts(after, total, refusal, total as usize + first),
-                Refusal::Forbidden => halts(after, total, refusal, total as usize + first),
+                Refusal::Unlisted => halts(after, before, refusal, place),
+                Refusal::Foreign => halts(after, before, refusal, place),
+                Refusal::Forbidden => halts(after, before, refusal, place),
             }
         }
     }
@@ -64,7 +67,8 @@ pub fn went_on(panel: Panel, unfinished: Unfinished, total: usize) -> Taken
 }
 
 // A record is refused: that stands from now on, and the total is what it was.
-pub fn halts(panel: Panel, total: u32, refusal: Refusal, at: usize) -> Taken
+pub fn halts(panel: Panel, total: usize, refusal: Refusal, at: usize) -> Taken
+    requires { ⌜ total ≤ 4294967295 ⌝ }
     ensures { λ r. ⌜ r ≡ halted panel total refusal at ⌝ }
 {
     let answer = refused(refusal, Place(at));
@@ -73,7 +77,7 @@ pub fn halts(panel: Panel, total: u32, refusal: Refusal, at: usize) -> Taken
         feed: Feed {
             panel,
             unfinished: Unfinished::None,
-            total,
+            total: total as u32,
             kept: Kept::Refused(answer),
         },
     }

@@ -34,7 +34,7 @@ leftBy (Stops Foreign at) l = []
 leftBy (Stops CutShort at) l = drop (at .0) l
 leftBy (Stops Forbidden at) l = []
 
--- Nothing is told against what was read.
+-- No record is refused by 5, 6 or 8: the bytes end behind a record, or inside one.
 abbrev pub Open : Ending → Type 0
 Open Done = Unit
 Open (Stops Unlisted at) = ⊥

@@ -1,10 +1,10 @@
 // The replay for all parts: the part byte is looked at once.
 use answers::Answer;
+use answers::Trial;
 use answers::refused;
 use panel::Panel;
 use panel_walks::panel_walk;
 use recording::Ending;
-use replay_tests::Trial;
 use replay_tests::tried;
 use terms::Part;
 use terms::PartRead;

@@ -1,5 +1,6 @@
 // What a replay is refused for before its first record: tests 2, 4 and 3.
 use answers::Answer;
+use answers::Trial;
 use panel::Panel;
 use panel_ranges::in_range;
 use terms::Part;
@@ -8,12 +9,6 @@ ghost use Rattle.knowing.specs.Standing.{Sound};
 ghost use Rattle.parts.specs.Facts.{range};
 ghost use Rattle.panel.specs.View.{knownOf};
 ghost use Rattle.replay_tests.specs.Tests.{Tries};
-
-pub enum Trial {
-    // The records are looked at next.
-    Passed,
-    Refused(Answer),
-}
 
 pub fn tried(part: Part, panel: Panel, length: usize, start: Place) -> Trial
     ensures { λ r. ⌜ Tries (Sound (range part) (knownOf part panel)) length (start .0) r ⌝ }

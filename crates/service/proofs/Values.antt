@@ -29,8 +29,11 @@ use Rattle.feed.specs.declared.state.Feed.{Feed}
 use Rattle.answers.specs.declared.Answer.{Answer}
 use Rattle.packets.specs.declared.records.Taken.{Taken}
 use Rattle.feed.proofs.state.Feed as T
+use Rattle.feed.proofs.state.Feed.Laws as T′
 use Rattle.answers.proofs.Answer as S
+use Rattle.answers.proofs.Answer.Laws as S′
 use Rattle.packets.proofs.records.Taken as P
+use Rattle.packets.proofs.records.Taken.Laws as P′
 
 abbrev pub R : RattleType
 R = T.the-row

@@ -12,15 +12,15 @@ in-range-requires : tie.Need-in-range-requires
 in-range-requires c κs = search needs
 
 returns : tie.Need-returns
-returns c = bad (λ g. true≢false (sym (c .before .in-range .ensures .back g) ∙ not-true _ (c .if1 .taken))) (refl, refl)
+returns c = bad (λ g. true≢false (sym (c .before .in-range .ensures .back g) ∙ not-true _ (c .if1 .taken))) (record { numbered = refl; placed = refl })
 
 returns-2 : tie.Need-returns-2
-returns-2 c = good (c .before .before .in-range .ensures .so (not-false _ (c .before .if1 .left))) (bad (λ h. omega (arith, h, c .if2 .taken)) (refl, refl))
+returns-2 c = good (c .before .before .in-range .ensures .so (not-false _ (c .before .if1 .left))) (bad (λ h. omega (arith, h, c .if2 .taken)) (record { numbered = refl; placed = refl }))
 
 returns-3 : tie.Need-returns-3
 returns-3 c =
     good (c .before .before .before .before .in-range .ensures .so (not-false _ (c .before .before .before .if1 .left)))
-    (good (c .before .before .if2 .left) (bad (λ h. omega (arith, h, c .if3 .taken)) (refl, refl)))
+    (good (c .before .before .if2 .left) (bad (λ h. omega (arith, h, c .if3 .taken)) (record { numbered = refl; placed = refl })))
 
 returns-4 : tie.Need-returns-4
 returns-4 c =

@@ -8,13 +8,13 @@ use Rattle.feed.proofs.tests.fits.Statement.{statement}
 use Rattle.feed.proofs.tests.fits.Tie as tie
 
 returns : tie.Need-returns
-returns c = bad (λ h. omega (arith, h .packet, c .if1 .taken)) (refl, refl)
+returns c = bad (λ h. omega (arith, h .packet, c .if1 .taken)) (record { numbered = refl; placed = refl })
 
 sub-room : tie.Need-sub-room
 sub-room c = search needs
 
 returns-2 : tie.Need-returns-2
-returns-2 c = bad (λ h. omega (arith, h .whole, c .if2 .taken)) (refl, refl)
+returns-2 c = bad (λ h. omega (arith, h .whole, c .if2 .taken)) (record { numbered = refl; placed = refl })
 
 returns-3 : tie.Need-returns-3
 returns-3 c = good (record { packet = c .before .if1 .left; whole = omega (arith, c .if2 .left, c .before .before .fits .total) }) tt

@@ -112,6 +112,9 @@ enum-known-ending c = search needs
 cast-halts : tie.Need-cast-halts
 cast-halts c = search needs
 
+cast-halts-2 : tie.Need-cast-halts-2
+cast-halts-2 c = search needs
+
 sub-halts : tie.Need-sub-halts
 sub-halts c = search needs
 
@@ -181,6 +184,7 @@ read-joined-spec =
     read-from-requires
     enum-known-ending
     cast-halts
+    cast-halts-2
     sub-halts
     add-halts
     halts-requires

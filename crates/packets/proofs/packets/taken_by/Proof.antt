@@ -5,9 +5,10 @@ use lib.ListN.{length}
 use Prim.Native.Nat.{ℕ}
 use Rattle.terms.specs.declared.Part.{Part}
 use Rattle.feed.specs.declared.state.Feed.{Feed}
-use Rattle.feed.specs.declared.tests.Trial.{Trial}
-use Rattle.feed.specs.declared.tests.Trial.the-variants.{Passed, Refused}
-use Rattle.feed.specs.Tests.{RefusedWith, Tries}
+use Rattle.answers.specs.declared.Trial.{Trial}
+use Rattle.answers.specs.declared.Trial.the-variants.{Passed, Refused}
+use Rattle.answers.specs.Told.{RefusedWith}
+use Rattle.feed.specs.Tests.{Tries}
 use Rattle.feed.specs.TestLaws.{tested-map, tests-passed}
 use Rattle.packets.specs.Takes.{RefusedBy}
 use borrow.Author.Needs.{needs}
@@ -43,7 +44,7 @@ returns-2 : tie.Need-returns-2
 returns-2 c =
     let a = c .before .before .before .before .before .args in
     tested-map (a .part) (a .feed) (length (a .packet .now)) (RefusedWith (Refused (c .before .tried2 .given .0 .0))) (λ n at. RefusedBy n at (a .feed) (record { answer = c .before .tried2 .given .0 .0; feed = a .feed }))
-    (λ n at h. record { numbered = h .0; placed = h .1; kept = refl }) (λ never. absurd never)
+    (λ n at h. record { numbered = h .numbered; placed = h .placed; kept = refl }) (λ never. absurd never)
     (tells (a .part) (a .feed) (length (a .packet .now)) (c .before .tried2 .given .1) (c .before .before .before .tried .ensures))
 
 pub taken-by-spec : {M : Type 1} → statement M

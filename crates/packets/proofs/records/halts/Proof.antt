@@ -8,8 +8,11 @@ use Rattle.packets.proofs.records.halts.Tie as tie
 refused-requires : tie.Need-refused-requires
 refused-requires c κs = search needs
 
+cast-t8 : tie.Need-cast-t8
+cast-t8 c = search needs
+
 returns : tie.Need-returns
 returns c = rw (c .refused .ensures) refl
 
 pub halts-spec : {M : Type 1} → statement M
-halts-spec = tie.close (tie.spec refused-requires returns)
+halts-spec = tie.close (tie.spec refused-requires cast-t8 returns)

@@ -31,11 +31,11 @@ part-panel-walk-end c = search needs
 panel-walk-requires : tie.Need-panel-walk-requires
 panel-walk-requires c κs = search needs
 
+add-sum : tie.Need-add-sum
+add-sum c = search needs
+
 enum-told : tie.Need-enum-told
 enum-told c = search needs
-
-add-went-on : tie.Need-add-went-on
-add-went-on c = search needs
 
 went-on-requires : tie.Need-went-on-requires
 went-on-requires c κs = search needs
@@ -45,6 +45,14 @@ enum-known-ending c = search needs
 
 add-first : tie.Need-add-first
 add-first c = let a = c .before .before .before .before .before .before .before .before .args in
+    let l = a .packet .now in
+    let w : Walks (a .part) (a .panel) (drop (a .from) l) (c .before .before .before .before .before .panel-walk .result) = subst (λ m. Walks (a .part) (a .panel) m (c .before .before .before .before .before .panel-walk .result)) (part-from (a .from) l) (c .before .before .before .before .before .panel-walk .ensures) in
+    let s = stops-within (a .part) (drop (a .from) l) _ (c .before .before .ending .given .0 .1 .0) (sym (w .ended) ∙ c .before .before .ending .given .1) in
+    let d = length-drop (a .from) l in
+    record { fits = omega (arith, s, d, c .before .before .before .before .before .before .before .before .pre) }
+
+add-place : tie.Need-add-place
+add-place c = let a = c .before .before .before .before .before .before .before .before .args in
     let l = a .packet .now in
     let w : Walks (a .part) (a .panel) (drop (a .from) l) (c .before .before .before .before .before .panel-walk .result) = subst (λ m. Walks (a .part) (a .panel) m (c .before .before .before .before .before .panel-walk .result)) (part-from (a .from) l) (c .before .before .before .before .before .panel-walk .ensures) in
     let s = stops-within (a .part) (drop (a .from) l) _ (c .before .before .ending .given .0 .1 .0) (sym (w .ended) ∙ c .before .before .ending .given .1) in
@@ -83,22 +91,11 @@ held-requires c κs = let a = c .before .before .before .before .before .before 
     let e = ap length (part-from (a .from + at .0) l ∙ sym (drop-drop (at .0) (a .from) l)) in
     omega (arith, n, e)
 
-add-went-on-2 : tie.Need-add-went-on-2
-add-went-on-2 c = search needs
-
 went-on-requires-2 : tie.Need-went-on-requires-2
 went-on-requires-2 c κs = search needs
 
 enum-told-3 : tie.Need-enum-told-3
 enum-told-3 c = search needs
-
-add-halts : tie.Need-add-halts
-add-halts c = let a = c .before .before .before .before .before .before .before .before .before .before .args in
-    let l = a .packet .now in
-    let w : Walks (a .part) (a .panel) (drop (a .from) l) (c .before .before .before .before .before .before .before .panel-walk .result) = subst (λ m. Walks (a .part) (a .panel) m (c .before .before .before .before .before .before .before .panel-walk .result)) (part-from (a .from) l) (c .before .before .before .before .before .before .before .panel-walk .ensures) in
-    let s = stops-within (a .part) (drop (a .from) l) _ (c .before .before .before .before .ending .given .0 .1 .0) (sym (w .ended) ∙ c .before .before .before .before .ending .given .1) in
-    let d = length-drop (a .from) l in
-    record { fits = omega (arith, s, d, c .before .before .before .before .before .before .before .before .before .before .pre) }
 
 halts-requires : tie.Need-halts-requires
 halts-requires c κs = search needs
@@ -106,27 +103,11 @@ halts-requires c κs = search needs
 enum-told-4 : tie.Need-enum-told-4
 enum-told-4 c = search needs
 
-add-halts-2 : tie.Need-add-halts-2
-add-halts-2 c = let a = c .before .before .before .before .before .before .before .before .before .before .args in
-    let l = a .packet .now in
-    let w : Walks (a .part) (a .panel) (drop (a .from) l) (c .before .before .before .before .before .before .before .panel-walk .result) = subst (λ m. Walks (a .part) (a .panel) m (c .before .before .before .before .before .before .before .panel-walk .result)) (part-from (a .from) l) (c .before .before .before .before .before .before .before .panel-walk .ensures) in
-    let s = stops-within (a .part) (drop (a .from) l) _ (c .before .before .before .before .ending .given .0 .1 .0) (sym (w .ended) ∙ c .before .before .before .before .ending .given .1) in
-    let d = length-drop (a .from) l in
-    record { fits = omega (arith, s, d, c .before .before .before .before .before .before .before .before .before .before .pre) }
-
 halts-requires-2 : tie.Need-halts-requires-2
 halts-requires-2 c κs = search needs
 
 enum-told-5 : tie.Need-enum-told-5
 enum-told-5 c = search needs
-
-add-halts-3 : tie.Need-add-halts-3
-add-halts-3 c = let a = c .before .before .before .before .before .before .before .before .before .before .args in
-    let l = a .packet .now in
-    let w : Walks (a .part) (a .panel) (drop (a .from) l) (c .before .before .before .before .before .before .before .panel-walk .result) = subst (λ m. Walks (a .part) (a .panel) m (c .before .before .before .before .before .before .before .panel-walk .result)) (part-from (a .from) l) (c .before .before .before .before .before .before .before .panel-walk .ensures) in
-    let s = stops-within (a .part) (drop (a .from) l) _ (c .before .before .before .before .ending .given .0 .1 .0) (sym (w .ended) ∙ c .before .before .before .before .ending .given .1) in
-    let d = length-drop (a .from) l in
-    record { fits = omega (arith, s, d, c .before .before .before .before .before .before .before .before .before .before .pre) }
 
 halts-requires-3 : tie.Need-halts-requires-3
 halts-requires-3 c κs = search needs
@@ -186,26 +167,23 @@ read-from-spec =
     part-panel-walk-start
     part-panel-walk-end
     panel-walk-requires
+    add-sum
     enum-told
-    add-went-on
     went-on-requires
     enum-known-ending
     add-first
+    add-place
     enum-told-2
     sub-held
     part-held-start
     part-held-end
     held-requires
-    add-went-on-2
     went-on-requires-2
     enum-told-3
-    add-halts
     halts-requires
     enum-told-4
-    add-halts-2
     halts-requires-2
     enum-told-5
-    add-halts-3
     halts-requires-3
     returns
     returns-2

@@ -8,10 +8,11 @@ use Rattle.terms.specs.declared.Part.{Part}
 use Rattle.parts.specs.Facts.{range}
 use Rattle.panel.specs.declared.knowledge.Panel.{Panel}
 use Rattle.panel.specs.View.{knownOf}
-use Rattle.replay_tests.specs.declared.Trial.{Trial}
-use Rattle.replay_tests.specs.declared.Trial.the-variants.{Passed, Refused}
+use Rattle.answers.specs.declared.Trial.{Trial}
+use Rattle.answers.specs.declared.Trial.the-variants.{Passed, Refused}
 use Rattle.replay.specs.Replay.{RefusedBy}
-use Rattle.replay_tests.specs.Tests.{RefusedWith, Tries}
+use Rattle.answers.specs.Told.{RefusedWith}
+use Rattle.replay_tests.specs.Tests.{Tries}
 use Rattle.replay_tests.specs.Laws.{tests-passed, tested-map}
 use borrow.Author.Needs.{needs}
 use Rattle.replay.proofs.replays.replay_part.Statement.{statement}
@@ -30,7 +31,7 @@ enum-told c = search needs
 replay-from-requires : tie.Need-replay-from-requires
 replay-from-requires c κs =
     let a = c .before .before .before .before .args in
-    let p = tests-passed (λ m. RefusedWith m Passed) (λ m two four never. never) (tells (a .part) (a .panel) (length (a .recording .now)) (a .start .0) (c .enum-told .given .1) (c .before .before .tried .ensures)) in
+    let p = tests-passed (λ m. RefusedWith Passed m 0) (λ m two four never. never) (tells (a .part) (a .panel) (length (a .recording .now)) (a .start .0) (c .enum-told .given .1) (c .before .before .tried .ensures)) in
     (p .1, p .2)
 
 enum-known-tried : tie.Need-enum-known-tried
@@ -39,13 +40,13 @@ enum-known-tried c = search needs
 returns : tie.Need-returns
 returns c =
     let a = c .before .before .before .before .before .args in
-    tested-map (λ m. RefusedWith m Passed) (λ m. RefusedBy m 0 (a .panel) (c .replay-from .result)) (λ m never. absurd never) (λ passed. c .replay-from .ensures)
+    tested-map (λ m. RefusedWith Passed m 0) (λ m. RefusedBy m 0 (a .panel) (c .replay-from .result)) (λ m never. absurd never) (λ passed. c .replay-from .ensures)
     (tells (a .part) (a .panel) (length (a .recording .now)) (a .start .0) (c .before .enum-told .given .1) (c .before .before .before .tried .ensures))
 
 returns-2 : tie.Need-returns-2
 returns-2 c =
     let a = c .before .before .before .before .before .args in
-    tested-map (λ m. RefusedWith m (Refused (c .before .tried2 .given .0 .0))) (λ m. RefusedBy m 0 (a .panel) (record { answer = c .before .tried2 .given .0 .0; panel = a .panel })) (λ m h. record { numbered = h .0; placed = h .1; kept = refl }) (λ never. absurd never)
+    tested-map (λ m. RefusedWith (Refused (c .before .tried2 .given .0 .0)) m 0) (λ m. RefusedBy m 0 (a .panel) (record { answer = c .before .tried2 .given .0 .0; panel = a .panel })) (λ m h. record { numbered = h .numbered; placed = h .placed; kept = refl }) (λ never. absurd never)
     (tells (a .part) (a .panel) (length (a .recording .now)) (a .start .0) (c .before .tried2 .given .1) (c .before .before .before .tried .ensures))
 
 pub replay-part-spec : {M : Type 1} → statement M

@@ -41,11 +41,15 @@ use Rattle.terms.specs.Part.{partOf}
 use Rattle.feed.specs.declared.state.Feed.{Feed}
 use Rattle.answers.specs.declared.Answer.{Answer}
 use Rattle.feed.proofs.state.Feed as T
+use Rattle.feed.proofs.state.Feed.Laws as T′
 use Rattle.answers.proofs.Answer as S
+use Rattle.answers.proofs.Answer.Laws as S′
 use Rattle.service.proofs.Values.{R, mach}
 use Rattle.feed.proofs.closed as closed
 use Rattle.feed.proofs.closed.Symbol as closed-def
+use Rattle.feed.proofs.closed.Symbol.{name as #feed·closed}
 use Rattle.feed.proofs.closed.Met as closed-thm
+use Rattle.service.proofs.lent.close.Key.{name as #close}
 use Rattle.service.proofs.lent.close as close
 use Rattle.service.proofs.lent.close.Statement as stated
 use Rattle.service.proofs.lent.close.Code as code

@@ -48,12 +48,17 @@ use Rattle.terms.specs.Part.{partOf}
 use Rattle.feed.specs.declared.state.Feed.{Feed}
 use Rattle.packets.specs.declared.records.Taken.{Taken}
 use Rattle.feed.proofs.state.Feed as T
+use Rattle.feed.proofs.state.Feed.Laws as T′
 use Rattle.answers.proofs.Answer as S
+use Rattle.answers.proofs.Answer.Laws as S′
 use Rattle.packets.proofs.records.Taken as P
+use Rattle.packets.proofs.records.Taken.Laws as P′
 use Rattle.service.proofs.Values.{R, mach, answers, told, is-answer, is-feed, taken-mir, answer-at, feed-at, answer-of, feed-of}
 use Rattle.packets.proofs.taken as taken
 use Rattle.packets.proofs.taken.Symbol as taken-def
+use Rattle.packets.proofs.taken.Symbol.{name as #taken}
 use Rattle.packets.proofs.taken.Met as taken-thm
+use Rattle.service.proofs.lent.take.Key.{name as #take}
 use Rattle.service.proofs.lent.take as take
 use Rattle.service.proofs.lent.take.Statement as stated
 use Rattle.service.proofs.lent.take.Code as code
