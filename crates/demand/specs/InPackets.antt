@@ -33,17 +33,19 @@ use Rattle.panel.specs.declared.knowledge.Panel.{Panel}
 use Rattle.panel.specs.View.{knownOf, OtherKept}
 use Rattle.answers.specs.declared.Answer.{Answer}
 use Rattle.answers.specs.Answer.{number, place}
-use Rattle.feed.specs.declared.state.Feed.{Feed}
-use Rattle.feed.specs.declared.state.Kept.{Kept}
-use Rattle.feed.specs.declared.state.Kept.the-variants as Stands
-use Rattle.feed.specs.Bytes.{bytesOf}
-use Rattle.feed.specs.Feed.{Good, opening, firstPlace}
-use Rattle.feed.specs.Tests.{Fits as FitsIn, ByKept}
-use Rattle.feed.specs.Close as Close
 use Rattle.answers.specs.Told.{Answers}
-use Rattle.feed.specs.Close.{ByLeft, ClosesPart, Closes}
+use Rattle.account.specs.declared.kept.Kept.{Kept}
+use Rattle.account.specs.declared.kept.Kept.the-variants as Stands
+use Rattle.account.specs.Bytes.{bytesOf}
+use Rattle.account_tests.specs.Close.{ByLeft}
+use Rattle.account_tests.specs.Tests.{Fits as FitsIn, ByKept}
+use Rattle.account_ends.specs.Ended.{Goes, Halts, ByEnd}
+use Rattle.feed.specs.declared.state.Feed.{Feed}
+use Rattle.feed.specs.Feed.{Good, opening, firstPlace}
+use Rattle.feed.specs.Close as Close
+use Rattle.feed.specs.Close.{ClosesPart, Closes}
 use Rattle.packets.specs.declared.records.Taken.{Taken}
-use Rattle.packets.specs.Takes.{RefusedBy, Goes, Halts, ByEnd, ReadsRow, Reads, Takes}
+use Rattle.packets.specs.Takes.{ends, RefusedBy, ReadsRow, Reads, Takes}
 use Rattle.packets.specs.Run.{Run, together, started, ending, NoFour, AllAnswered, Course, over, goes, halts, AllGo}
 use Rattle.whole.specs.Turns.{Chain, KnowsAtLeast}
 use Rattle.whole.specs.Sentence.{position, StartKnows, hasGap, DefinedOn, NoUndefined, startsFirst, IsMemory, AllEnd}
@@ -70,8 +72,8 @@ closes-by : (q : PartRead) (p : Part) (s : Feed) (a : Answer) → q ≡ Is p →
 closes-by q p s a e h = subst (λ (x : PartRead). Closes x s a) e h
 
 -- What closing comes to, by what is unfinished.
-ends-left : (s : Feed) (a : Answer) (u : List ℕ) → bytesOf (s .unfinished) ≡ u → Close.Ends s a → ByLeft u s a
-ends-left s a u e h = subst (λ (x : List ℕ). ByLeft x s a) e h
+ends-left : (s : Feed) (a : Answer) (u : List ℕ) → bytesOf (s .unfinished) ≡ u → Close.Ends s a → ByLeft u (firstPlace s) (s .total) (s .kept) a
+ends-left s a u e h = subst (λ (x : List ℕ). ByLeft x (firstPlace s) (s .total) (s .kept) a) e h
 
 -- What is known after the last good record, and that the half that speaks of the other parts is as it was.
 pub record KnownAfter (p : Part) (row : List ℕ) (k r : Panel) : Type 0 where
@@ -102,8 +104,8 @@ module _ (b : ℕ) (p : Part) (named : partOf b ≡ Is p) (s : Feed) (good : Goo
   known-after : KnownAfter p whole (s .panel) (last .feed .panel)
   known-after = record { known = one .2 .known; kept = one .2 .kept }
 
-  by-end : (e : Ending) → endOf (walked p whole) ≡ e → ByEnd e (firstPlace s) (one .0) all whole last
-  by-end e q = subst (λ (x : Ending). ByEnd x (firstPlace s) (one .0) all whole last) q (one .2 .ended)
+  by-end : (e : Ending) → endOf (walked p whole) ≡ e → ByEnd e (firstPlace s) (one .0) all whole (ends last)
+  by-end e q = subst (λ (x : Ending). ByEnd x (firstPlace s) (one .0) all whole (ends last)) q (one .2 .ended)
 
   all-go : (e : Ending) → endOf (walked p whole) ≡ e → Open e → AllGo (s .total) ls rs
   all-go e q o = course-open p (last .answer) (bytesOf (s .unfinished)) (s .total) ls rs (one .0) (one .1) (subst⁻¹ Open q o)
@@ -159,7 +161,7 @@ module _ (b : ℕ) (p : Part) (named : partOf b ≡ Is p) (s : Feed) (good : Goo
     -- If the whole is accepted: every packet is answered 0 at its total, the end knows what the whole's events in turn make of
     -- the start, nothing is unfinished, and closing is 0 at the total.
     pub packets-accepted : endOf (walked p whole) ≡ Done
-        → AllGo (s .total) ls rs × KnownAfter p whole (s .panel) (last .feed .panel) × Goes all [] last × Answers a 0 all
+        → AllGo (s .total) ls rs × KnownAfter p whole (s .panel) (last .feed .panel) × Goes all [] (ends last) × Answers a 0 all
     packets-accepted q =
         let g = by-end Done q in
         let k = subst (λ (x : Kept). ByKept x (Answers a) (Answers a 0 (last .feed .total))) (g .stands) (ends-left (last .feed) a [] (g .unfinished) (closed (good-last Done q tt))) in
@@ -167,11 +169,11 @@ module _ (b : ℕ) (p : Part) (named : partOf b ≡ Is p) (s : Feed) (good : Goo
 
     -- If it is cut short: every packet is answered 0 at its total, and closing is 7 at the record's first byte.
     pub packets-cut-short : (at : Place) → endOf (walked p whole) ≡ Stops CutShort at
-        → AllGo (s .total) ls rs × KnownAfter p whole (s .panel) (last .feed .panel) × Goes all (drop (at .0) whole) last
+        → AllGo (s .total) ls rs × KnownAfter p whole (s .panel) (last .feed .panel) × Goes all (drop (at .0) whole) (ends last)
         × Answers a 7 (firstPlace s + at .0)
     packets-cut-short at q = (all-go (Stops CutShort at) q tt, known-after, g, close (drop (at .0) whole) some-left g)
       where
-        g : Goes all (drop (at .0) whole) last
+        g : Goes all (drop (at .0) whole) (ends last)
         g = by-end (Stops CutShort at) q
 
         o : Open (endOf (walked p whole))
@@ -188,7 +190,7 @@ module _ (b : ℕ) (p : Part) (named : partOf b ≡ Is p) (s : Feed) (good : Goo
             place-again p (s .panel) (firstPlace s) (one .0) all whole last (good .in-range) bytes counts (one .2) o
             ∙ ap (λ (e : Ending). firstPlace s + standsAt e whole) q
 
-        close : (u : List ℕ) → (length u ≡ 0 → ⊥) → Goes all u last → Answers a 7 (firstPlace s + at .0)
+        close : (u : List ℕ) → (length u ≡ 0 → ⊥) → Goes all u (ends last) → Answers a 7 (firstPlace s + at .0)
         close [] more h = absurd (more refl)
         close (x ∷ u) more h =
             let k = ends-left (last .feed) a (x ∷ u) (h .unfinished) (closed (good-last (Stops CutShort at) q tt)) in
@@ -199,17 +201,17 @@ module _ (b : ℕ) (p : Part) (named : partOf b ≡ Is p) (s : Feed) (good : Goo
     -- that packet, and closing is answered the same.
     pub packets-refused : (x : Refusal) (at : Place) → endOf (walked p whole) ≡ Stops x at → (Open (Stops x at) → ⊥)
         → (before : ℕ) × Course p (last .answer) (bytesOf (s .unfinished)) (s .total) ls rs before × KnownAfter p whole (s .panel) (last .feed .panel)
-        × Halts (Record.number x) (firstPlace s + at .0) before last × Answers a (Record.number x) (firstPlace s + at .0)
+        × Halts (Record.number x) (firstPlace s + at .0) before (ends last) × Answers a (Record.number x) (firstPlace s + at .0)
     packets-refused x at q shut = (one .0, one .1, known-after, h, close)
       where
-        halting : (y : Refusal) → (Open (Stops y at) → ⊥) → ByEnd (Stops y at) (firstPlace s) (one .0) all whole last
-            → Halts (Record.number y) (firstPlace s + at .0) (one .0) last
+        halting : (y : Refusal) → (Open (Stops y at) → ⊥) → ByEnd (Stops y at) (firstPlace s) (one .0) all whole (ends last)
+            → Halts (Record.number y) (firstPlace s + at .0) (one .0) (ends last)
         halting Unlisted no-way h = h
         halting Foreign no-way h = h
         halting CutShort no-way h = absurd (no-way tt)
         halting Forbidden no-way h = h
 
-        h : Halts (Record.number x) (firstPlace s + at .0) (one .0) last
+        h : Halts (Record.number x) (firstPlace s + at .0) (one .0) (ends last)
         h = halting x shut (by-end (Stops x at) q)
 
         stood : Good p (last .feed) × (last .feed .kept ≡ Stands.Refused (last .answer))

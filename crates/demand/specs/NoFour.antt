@@ -15,26 +15,29 @@ use Rattle.recording.specs.declared.ending.Ending.{Ending}
 use Rattle.recording.specs.declared.ending.Ending.the-variants.{Done, Stops}
 use Rattle.recording.specs.declared.read.Refusal.the-variants.{Unlisted, Foreign, CutShort, Forbidden}
 use Rattle.answers.specs.Answer.{number, place}
+use Rattle.account.specs.declared.kept.Kept.{Kept}
+use Rattle.account.specs.declared.kept.Kept.the-variants as Stands
+use Rattle.account.specs.Bytes.{bytesOf}
+use Rattle.account_tests.specs.Fair.{stands, MayStand}
+use Rattle.account_tests.specs.Tests.{Fits, ByKept}
+use Rattle.account_ends.specs.declared.ended.Ended.{Ended}
+use Rattle.account_ends.specs.Ended.{ByEnd}
 use Rattle.feed.specs.declared.state.Feed.{Feed}
-use Rattle.feed.specs.declared.state.Kept.{Kept}
-use Rattle.feed.specs.declared.state.Kept.the-variants as Stands
-use Rattle.feed.specs.Bytes.{bytesOf}
-use Rattle.feed.specs.Feed.{stands, MayStand, firstPlace}
-use Rattle.feed.specs.Tests.{Fits, ByKept}
+use Rattle.feed.specs.Feed.{firstPlace}
 use Rattle.packets.specs.declared.records.Taken.{Taken}
-use Rattle.packets.specs.Takes.{RefusedBy, ByEnd, Reads, TakesPart}
+use Rattle.packets.specs.Takes.{ends, RefusedBy, Reads, TakesPart}
 use Rattle.packets.specs.Run.{Run, together, NoFour}
 use Rattle.demand.specs.Packets.{takes-by}
 
 -- What a row's end is answered, and what it makes of the total.
-end-not-four : (e : Ending) (first before after : ℕ) (l : List ℕ) (r : Taken) → ByEnd e first before after l r → number (r .answer) ≡ 4 → ⊥
+end-not-four : (e : Ending) (first before after : ℕ) (l : List ℕ) (r : Ended) → ByEnd e first before after l r → number (r .answer) ≡ 4 → ⊥
 end-not-four Done first before after l r h z = let x = sym (h .numbered) ∙ z in omega (arith, x)
 end-not-four (Stops Unlisted at) first before after l r h z = let x = sym (h .numbered) ∙ z in omega (arith, x)
 end-not-four (Stops Foreign at) first before after l r h z = let x = sym (h .numbered) ∙ z in omega (arith, x)
 end-not-four (Stops CutShort at) first before after l r h z = let x = sym (h .numbered) ∙ z in omega (arith, x)
 end-not-four (Stops Forbidden at) first before after l r h z = let x = sym (h .numbered) ∙ z in omega (arith, x)
 
-end-total : (e : Ending) (first before after : ℕ) (l : List ℕ) (r : Taken) → before ≤ after → ByEnd e first before after l r → r .feed .total ≤ after
+end-total : (e : Ending) (first before after : ℕ) (l : List ℕ) (r : Ended) → before ≤ after → ByEnd e first before after l r → r .total ≤ after
 end-total Done first before after l r more h = let x = h .counted in omega (arith, x)
 end-total (Stops Unlisted at) first before after l r more h = let x = h .counted in omega (arith, x, more)
 end-total (Stops Foreign at) first before after l r more h = let x = h .counted in omega (arith, x, more)
@@ -56,7 +59,7 @@ module _ (p : Part) (s : Feed) (l : List ℕ) (r : Taken) where
     where
       by : (k : Kept) → MayStand k → Kinds k → ⊥
       by Stands.None m h =
-          end-not-four (endOf (walked p (bytesOf (s .unfinished) ++ l))) (firstPlace s) (s .total) (s .total + length l) (bytesOf (s .unfinished) ++ l) r (where-good fits h .ended) z
+          end-not-four (endOf (walked p (bytesOf (s .unfinished) ++ l))) (firstPlace s) (s .total) (s .total + length l) (bytesOf (s .unfinished) ++ l) (ends r) (where-good fits h .ended) z
       by (Stands.Refused a) m h = standing-not-four (number a) m (sym (h .numbered) ∙ z)
   not-four fits (bad wrong h) z = let x = sym (h .numbered) ∙ z in omega (arith, x)
 
@@ -70,7 +73,7 @@ module _ (p : Part) (s : Feed) (l : List ℕ) (r : Taken) where
     where
       by : (k : Kept) → Kinds k → r .feed .total ≤ s .total + length l
       by Stands.None (good fits h) =
-          end-total (endOf (walked p (bytesOf (s .unfinished) ++ l))) (firstPlace s) (s .total) (s .total + length l) (bytesOf (s .unfinished) ++ l) r (omega arith) (h .ended)
+          end-total (endOf (walked p (bytesOf (s .unfinished) ++ l))) (firstPlace s) (s .total) (s .total + length l) (bytesOf (s .unfinished) ++ l) (ends r) (omega arith) (h .ended)
       by Stands.None (bad no-way h) = same-total 4 0 h
       by (Stands.Refused a) h = same-total (number a) (place a) h
   total-within (bad wrong h) = same-total 2 0 h

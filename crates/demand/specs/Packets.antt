@@ -30,14 +30,16 @@ use Rattle.panel.specs.View.{knownOf}
 use Rattle.answers.specs.declared.Answer.{Answer}
 use Rattle.answers.specs.Answer.{number, place}
 use Rattle.answers.specs.Unique.{same-answer}
+use Rattle.account.specs.declared.kept.Kept.{Kept}
+use Rattle.account.specs.declared.kept.Kept.the-variants as Stands
+use Rattle.account.specs.Bytes.{bytesOf}
+use Rattle.account_tests.specs.Fair.{stands, MayStand}
+use Rattle.account_tests.specs.Tests.{Fits, ByKept}
+use Rattle.account_ends.specs.Ended.{Goes, Halts, ByEnd}
 use Rattle.feed.specs.declared.state.Feed.{Feed}
-use Rattle.feed.specs.declared.state.Kept.{Kept}
-use Rattle.feed.specs.declared.state.Kept.the-variants as Stands
-use Rattle.feed.specs.Bytes.{bytesOf}
-use Rattle.feed.specs.Feed.{stands, MayStand, Good, firstPlace}
-use Rattle.feed.specs.Tests.{Fits, ByKept}
+use Rattle.feed.specs.Feed.{Good, firstPlace}
 use Rattle.packets.specs.declared.records.Taken.{Taken}
-use Rattle.packets.specs.Takes.{RefusedBy, Goes, Halts, ByEnd, ReadsRow, Reads, TakesPart, Takes}
+use Rattle.packets.specs.Takes.{ends, RefusedBy, ReadsRow, Reads, TakesPart, Takes}
 use Rattle.packets.specs.Rows.{row-as, other-same, row-on, row-told, row-goes}
 use Rattle.packets.specs.Run.{Run, together, ending, NoFour, AllAnswered, Course, over, goes, halts}
 use Rattle.demand.specs.Recording.{AllBytes}
@@ -72,7 +74,7 @@ module _ (p : Part) (k : Panel) (first before after : ℕ) (row : List ℕ) (r :
   in-range = turned-in-range p (events (walked p row)) k (r .feed .panel) (read .known) (carry p 0 row bytes) sound
 
   module _ (o : Open (endOf (walked p row))) where
-    went : Goes after (leftBy (endOf (walked p row)) row) r
+    went : Goes after (leftBy (endOf (walked p row)) row) (ends r)
     went = row-goes p k first before after row r o read
 
     pub good-again : Good p (r .feed)
@@ -99,7 +101,7 @@ module _ (p : Part) (k : Panel) (first before after : ℕ) (row : List ℕ) (r :
   pub good-halted : (Open (endOf (walked p row)) → ⊥) → Good p (r .feed) × (r .feed .kept ≡ Stands.Refused (r .answer))
   good-halted shut = by (endOf (walked p row)) shut (read .ended)
     where
-      stood : (n at : ℕ) → stands n ≡ true → Halts n at before r → Good p (r .feed) × (r .feed .kept ≡ Stands.Refused (r .answer))
+      stood : (n at : ℕ) → stands n ≡ true → Halts n at before (ends r) → Good p (r .feed) × (r .feed .kept ≡ Stands.Refused (r .answer))
       stood n at e h =
           let u = ap length (h .unfinished) in (
             record {
@@ -111,7 +113,7 @@ module _ (p : Part) (k : Panel) (first before after : ℕ) (row : List ℕ) (r :
             h .stands,
           )
 
-      by : (e : Ending) → (Open e → ⊥) → ByEnd e first before after row r → Good p (r .feed) × (r .feed .kept ≡ Stands.Refused (r .answer))
+      by : (e : Ending) → (Open e → ⊥) → ByEnd e first before after row (ends r) → Good p (r .feed) × (r .feed .kept ≡ Stands.Refused (r .answer))
       by Done shut h = absurd (shut tt)
       by (Stops Unlisted at) shut h = stood 5 (first + at .0) refl h
       by (Stops Foreign at) shut h = stood 6 (first + at .0) refl h
@@ -194,7 +196,7 @@ no-packets p x h = by (bytesOf (x .feed .unfinished)) (h .good .cut-off) refl
     total : x .feed .total ≡ x .feed .total + 0
     total = omega arith
 
-    went : (left : List ℕ) → bytesOf (x .feed .unfinished) ≡ left → Goes (x .feed .total + 0) left x
+    went : (left : List ℕ) → bytesOf (x .feed .unfinished) ≡ left → Goes (x .feed .total + 0) left (ends x)
     went left e = record { numbered = h .numbered; placed = h .placed ∙ total; counted = total; unfinished = e; stands = h .free }
 
     by : (u : List ℕ) → CutOff p u → bytesOf (x .feed .unfinished) ≡ u
@@ -203,7 +205,7 @@ no-packets p x h = by (bytesOf (x .feed .unfinished)) (h .good .cut-off) refl
     by (b ∷ l) (some _ _ q) e =
         let w = walked-stops p (b ∷ l) (omega arith) CutShort q in
         row-as p (x .feed .panel) refl refl (sym (append-nil (b ∷ l))) (record {
-          ended = subst⁻¹ (λ (y : Ending). ByEnd y (firstPlace (x .feed)) (x .feed .total) (x .feed .total + 0) (b ∷ l) x) (w .1) (went (b ∷ l) e);
+          ended = subst⁻¹ (λ (y : Ending). ByEnd y (firstPlace (x .feed)) (x .feed .total) (x .feed .total + 0) (b ∷ l) (ends x)) (w .1) (went (b ∷ l) e);
           known = subst⁻¹ (λ (es : List Event). InTurn (knownOf p) (same? p) (range p) (move p) es (x .feed .panel) (x .feed .panel)) (w .0) (λ f. refl);
           kept = other-same p (x .feed .panel);
         })
@@ -268,7 +270,7 @@ module _ (b : ℕ) (p : Part) (named : partOf b ≡ Is p) where
         )
 
     module _ (o : Open (endOf (walked p R))) where
-      gone : Goes (s .total + length l) (leftBy (endOf (walked p R)) R) r
+      gone : Goes (s .total + length l) (leftBy (endOf (walked p R)) R) (ends r)
       gone = row-goes p (s .panel) (firstPlace s) (s .total) (s .total + length l) R r o read
 
       stay : Stays p r

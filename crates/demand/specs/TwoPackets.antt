@@ -25,14 +25,15 @@ use Rattle.answers.specs.declared.Answer.{Answer}
 use Rattle.answers.specs.Answer.{number}
 use Rattle.answers.specs.Told.{Answers}
 use Rattle.answers.specs.Unique.{same-answer}
+use Rattle.account.specs.declared.kept.Kept.the-variants as Stands
+use Rattle.account.specs.Bytes.{bytesOf}
+use Rattle.account_tests.specs.Tests.{Fits}
+use Rattle.account_ends.specs.Ended.{Goes, Halts, ByEnd}
 use Rattle.feed.specs.declared.state.Feed.{Feed}
-use Rattle.feed.specs.declared.state.Kept.the-variants as Stands
-use Rattle.feed.specs.Bytes.{bytesOf}
 use Rattle.feed.specs.Feed.{Good, opening, firstPlace}
-use Rattle.feed.specs.Tests.{Fits}
 use Rattle.feed.specs.Close.{Closes}
 use Rattle.packets.specs.declared.records.Taken.{Taken}
-use Rattle.packets.specs.Takes.{Goes, Halts, ByEnd, ReadsRow, Takes}
+use Rattle.packets.specs.Takes.{ends, ReadsRow, Takes}
 use Rattle.packets.specs.Rows.{row-as}
 use Rattle.packets.specs.Run.{Run, together, started, ending, NoFour}
 use Rattle.replay.specs.declared.replays.Replayed.{Replayed}
@@ -51,7 +52,7 @@ pub record SameButTotal (q t : Taken) : Type 0 where
 
 -- What a row's end says.
 module _ (q t : Taken) (first one two after : ℕ) (l : List ℕ) where
-  gone : (left : List ℕ) → Goes after left q → Goes after left t → SameButTotal q t × (q .feed .total ≡ t .feed .total)
+  gone : (left : List ℕ) → Goes after left (ends q) → Goes after left (ends t) → SameButTotal q t × (q .feed .total ≡ t .feed .total)
   gone left h g = (
     record {
       answer = same-answer (q .answer) (t .answer) (h .numbered ∙ sym (g .numbered)) (h .placed ∙ sym (g .placed));
@@ -61,12 +62,12 @@ module _ (q t : Taken) (first one two after : ℕ) (l : List ℕ) where
     h .counted ∙ sym (g .counted),
   )
 
-  halted : (n at : ℕ) → Halts n at one q → Halts n at two t → SameButTotal q t
+  halted : (n at : ℕ) → Halts n at one (ends q) → Halts n at two (ends t) → SameButTotal q t
   halted n at h g =
       let a = same-answer (q .answer) (t .answer) (h .numbered ∙ sym (g .numbered)) (h .placed ∙ sym (g .placed)) in
       record { answer = a; unfinished = h .unfinished ∙ sym (g .unfinished); stands = h .stands ∙ ap Stands.Refused a ∙ sym (g .stands) }
 
-  same-end : (e : Ending) → ByEnd e first one after l q → ByEnd e first two after l t → SameButTotal q t × (Open e → q .feed .total ≡ t .feed .total)
+  same-end : (e : Ending) → ByEnd e first one after l (ends q) → ByEnd e first two after l (ends t) → SameButTotal q t × (Open e → q .feed .total ≡ t .feed .total)
   same-end Done h g = let x = gone [] h g in (x .0, λ o. x .1)
   same-end (Stops Unlisted at) h g = (halted 5 (first + at .0) h g, λ o. absurd o)
   same-end (Stops Foreign at) h g = (halted 6 (first + at .0) h g, λ o. absurd o)
@@ -127,7 +128,7 @@ module _ (b : ℕ) (p : Part) (named : partOf b ≡ Is p) (k : Panel) (ls : List
       let (fine, done) = accepted p k (together ls) 0 z (replays-by k (together ls) 0 z (partOf b) p named replayed) nought in
       let start = opened-good p k (fine .in-range) in
       let x = in-one b p named ls (started (opening k)) rs (record { good = start; free = refl; numbered = refl; placed = refl }) run never bytes in
-      let e : Goes (0 + length (together ls)) [] last = subst (λ (y : Ending). ByEnd y 0 (x .0) (0 + length (together ls)) (together ls) last) (fine .ends) (x .2 .ended) in
+      let e : Goes (0 + length (together ls)) [] (ends last) = subst (λ (y : Ending). ByEnd y 0 (x .0) (0 + length (together ls)) (together ls) (ends last)) (fine .ends) (x .2 .ended) in
       let n : 0 + length (together ls) ≡ length (together ls) = omega arith in
       (same-answer (last .answer) (z .answer) (e .numbered ∙ sym (done .numbered)) (e .placed ∙ n ∙ sym (done .placed)), λ f. x .2 .known f ∙ sym (done .known f))
 

@@ -1,35 +1,16 @@
 -- The tests that come before a packet's records, in the paper's order: 2, the standing refusal, 4.
-use Prim.Native.Nat.{ℕ, _+_, _≤_}
+use Prim.Native.Nat.{ℕ}
 use Rattle.rules.specs.Where.{Where}
 use Rattle.terms.specs.declared.Part.{Part}
 use Rattle.answers.specs.declared.Trial.{Trial}
-use Rattle.answers.specs.Answer.{number, place}
 use Rattle.answers.specs.Told.{RefusedWith, Passes}
+use Rattle.account_tests.specs.Tests.{Admitted}
 use Rattle.feed.specs.declared.state.Feed.{Feed}
-use Rattle.feed.specs.declared.state.Kept.{Kept}
-use Rattle.feed.specs.declared.state.Kept.the-variants as Stands
 use Rattle.feed.specs.Feed.{Good}
-
--- A packet of n bytes is not too long, and leaves the total within its limit.
-pub record Fits (total n : ℕ) : Type 0 where
-  pub packet : n ≤ 65535
-  pub whole : total + n ≤ 4294967295
-
--- By the standing refusal: R with its number and place, P where there is none.
-abbrev pub ByKept : Kept → (ℕ → ℕ → Type 0) → Type 0 → Type 0
-ByKept Stands.None R P = P
-ByKept (Stands.Refused a) R P = R (number a) (place a)
-
--- The last test: 4.
-abbrev pub Fitted : ℕ → ℕ → (ℕ → ℕ → Type 0) → Type 0 → Type 0
-Fitted total n R P = Where (Fits total n) P (R 4 0)
 
 -- R with the number and place of the first test that refuses, P where none does.
 abbrev pub Tested : Part → Feed → ℕ → (ℕ → ℕ → Type 0) → Type 0 → Type 0
-Tested p s n R P = Where (Good p s) (ByKept (s .kept) R (Fitted (s .total) n R P)) (R 2 0)
+Tested p s n R P = Where (Good p s) (Admitted (s .kept) (s .total) n R P) (R 2 0)
 
 abbrev pub Tries : Part → Feed → ℕ → Trial → Type 0
 Tries p s n t = Tested p s n (RefusedWith t) (Passes t)
-
-abbrev pub Fitting : ℕ → ℕ → Trial → Type 0
-Fitting total n t = Fitted total n (RefusedWith t) (Passes t)

@@ -2,16 +2,11 @@
 mod close;
 mod state;
 mod tests;
-mod unfinished;
 
+pub use account::Kept;
+pub use account::Unfinished;
 pub use answers::Answer;
 pub use close::closed;
 pub use state::Feed;
-pub use state::Kept;
 pub use state::opened;
 pub use tests::tried;
-pub use unfinished::Unfinished;
-pub use unfinished::count_of;
-pub use unfinished::held;
-pub use unfinished::joined;
-pub use unfinished::whole_of;

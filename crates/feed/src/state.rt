@@ -1,15 +1,9 @@
 // What is kept of a panel between two packets.
-use crate::unfinished::Unfinished;
-use answers::Answer;
+use account::Kept;
+use account::Unfinished;
 use panel::Panel;
 ghost use mathlib.Core.Path.{_≡_};
 ghost use Rattle.feed.specs.Feed.{opening};
-
-// The refusal that stands, as it was answered, if there is one.
-pub enum Kept {
-    None,
-    Refused(Answer),
-}
 
 // The knowledge after the last good record, the bytes of a record that is not whole yet, the number of all bytes so far, and the standing refusal.
 pub struct Feed {

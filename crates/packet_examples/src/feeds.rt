@@ -1,6 +1,7 @@
 // What is kept of the panel, told by words and changed by packets.
 use crate::in_words;
 use crate::lines::Line;
+use account::held;
 use example_panels::known_characters;
 use example_panels::known_segments;
 use example_panels::told_characters;
@@ -11,7 +12,6 @@ use feed::Feed;
 use feed::Kept;
 use feed::Unfinished;
 use feed::closed;
-use feed::held;
 use feed::opened;
 use packets::taken;
 use panel::Panel;

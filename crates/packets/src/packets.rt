@@ -1,27 +1,31 @@
 // A packet, behind the tests.
 use crate::records::Taken;
-use crate::records::halts;
 use crate::records::read_from;
-use crate::records::went_on;
+use crate::records::with_panel;
+use account::Unfinished;
+use account::count_of;
+use account::joined;
+use account::whole_of;
+use account_ends::begun_refused;
+use account_ends::put_off;
 use answers::Answer;
 use answers::Trial;
 use feed::Feed;
-use feed::count_of;
-use feed::held;
-use feed::joined;
 use feed::tried;
-use feed::whole_of;
+use panel::Panel;
 use panel_walks::panel_walk;
 use recording::Ending;
 use terms::Part;
 use terms::PartRead;
 use terms::part_of;
 ghost use Prim.Native.Nat.{_+_, _≤_};
+ghost use mathlib.Core.Path.{_≡_};
 ghost use lib.ListN.{length};
 ghost use Rattle.terms.specs.Part.{partOf};
-ghost use Rattle.feed.specs.Bytes.{bytesOf};
+ghost use Rattle.account.specs.Bytes.{bytesOf, wholeOf};
+ghost use Rattle.account.specs.Begun.{Begun};
 ghost use Rattle.feed.specs.Feed.{Good};
-ghost use Rattle.packets.specs.Takes.{Reads, TakesPart, Takes};
+ghost use Rattle.packets.specs.Takes.{ReadsWith, Reads, TakesPart, Takes};
 
 pub fn taken(part: u8, feed: Feed, packet: &[u8]) -> Taken
     ensures { λ r. ⌜ Takes (partOf part) feed (now (packet .entry)) r ⌝ }
@@ -51,40 +55,49 @@ fn read(part: Part, feed: Feed, packet: &[u8]) -> Taken
     requires { ⌜ (Good part feed) × (feed .total + length (now packet) ≤ 4294967295) ⌝ }
     ensures { λ r. ⌜ Reads part feed (now (packet .entry)) r ⌝ }
 {
-    let unfinished = feed.unfinished;
-    if count_of(unfinished) == 0 {
-        let panel = feed.panel;
-        let total = feed.total;
-        return read_from(part, panel, total, packet, 0);
-    }
-    read_joined(part, feed, packet)
-}
-
-// The record that was begun is put together with the bytes that it still needs; the others are read where they stand.
-fn read_joined(part: Part, feed: Feed, packet: &[u8]) -> Taken
-    requires { ⌜ (Good part feed) × ((1 ≤ length (bytesOf (feed .unfinished))) × (feed .total + length (now packet) ≤ 4294967295)) ⌝ }
-    ensures { λ r. ⌜ Reads part feed (now (packet .entry)) r ⌝ }
-{
     let panel = feed.panel;
     let unfinished = feed.unfinished;
     let total = feed.total;
-    let had = count_of(unfinished);
-    let whole = whole_of(unfinished);
-    let row = joined(unfinished, packet);
-    if packet.len() < whole - had {
-        let all = had + packet.len();
-        return went_on(panel, held(&row[..all]), total as usize + packet.len());
+    if count_of(unfinished) == 0 {
+        return read_from(part, panel, total, packet, 0);
     }
+    read_joined(part, panel, unfinished, total, packet)
+}
+
+// A record was begun: with the packet it is still too short, or whole.
+fn read_joined(part: Part, panel: Panel, unfinished: Unfinished, total: u32, packet: &[u8]) -> Taken
+    requires { ⌜ (Begun part (bytesOf unfinished) total) × (total + length (now packet) ≤ 4294967295) ⌝ }
+    ensures { λ r. ⌜ ReadsWith part panel unfinished total (now (packet .entry)) r ⌝ }
+{
+    let from = whole_of(unfinished) - count_of(unfinished);
+    if packet.len() < from {
+        return with_panel(panel, put_off(unfinished, total, packet));
+    }
+    read_begun(part, panel, unfinished, total, packet, from)
+}
+
+// The record that was begun is put together with the bytes that it still needs; the others are read where they stand.
+fn read_begun(
+    part: Part,
+    panel: Panel,
+    unfinished: Unfinished,
+    total: u32,
+    packet: &[u8],
+    from: usize,
+) -> Taken
+    requires { ⌜ (Begun part (bytesOf unfinished) total) × (total + length (now packet) ≤ 4294967295) × (length (bytesOf unfinished) + from ≡ wholeOf (bytesOf unfinished)) × (from ≤ length (now packet)) ⌝ }
+    ensures { λ r. ⌜ ReadsWith part panel unfinished total (now (packet .entry)) r ⌝ }
+{
+    let row = joined(unfinished, packet);
+    let whole = whole_of(unfinished);
     let walked = panel_walk(part, panel, &row[..whole]);
     let ending = walked.ending;
     let after = walked.panel;
     match ending {
-        Ending::Done => read_from(part, after, total, packet, whole - had),
-        Ending::Stops(refusal, at) => halts(
+        Ending::Done => read_from(part, after, total, packet, from),
+        Ending::Stops(refusal, at) => with_panel(
             after,
-            total as usize,
-            refusal,
-            total as usize - had + at.0,
+            begun_refused(unfinished, total, refusal, at),
         ),
     }
 }

@@ -1,0 +1,4 @@
+pub mod Bytes
+pub mod Laws
+pub mod Begun
+pub mod Unique

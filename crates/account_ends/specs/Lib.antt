@@ -1,0 +1,3 @@
+pub mod Ended
+pub mod Laws
+pub mod Unique
