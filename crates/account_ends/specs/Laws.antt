@@ -6,9 +6,7 @@ use mathlib.Core.Path.{_≡_, refl, sym, ap, _∙_, subst}
 use mathlib.Core.List.{List}
 use lib.ListN.{length, drop, getD}
 use lib.Seq.{drop-drop}
-use Rattle.terms.specs.declared.Part.{Part}
 use Rattle.terms.specs.declared.Place.{Place}
-use Rattle.recording.specs.Record.{front}
 use Rattle.recording.specs.Append.{shifted}
 use Rattle.recording.specs.Cut.{Open, leftBy, stops-front}
 use Rattle.recording.specs.Start.{starts, body-four}
@@ -16,7 +14,6 @@ use Rattle.recording.specs.Steps.{stops-within}
 use Rattle.recording.specs.declared.ending.Ending.{Ending}
 use Rattle.recording.specs.declared.ending.Ending.the-variants.{Done, Stops}
 use Rattle.recording.specs.declared.read.Refusal.{Refusal}
-use Rattle.recording.specs.declared.read.Read.the-variants.{Refused}
 use Rattle.recording.specs.declared.read.Refusal.the-variants.{Unlisted, Foreign, CutShort, Forbidden}
 use Rattle.account_ends.specs.declared.ended.Ended.{Ended}
 use Rattle.account.specs.declared.unfinished.Unfinished.{Unfinished}

@@ -18,7 +18,7 @@ module _ (r q : Ended) where
   same-ended : r .answer ≡ q .answer → bytesOf (r .unfinished) ≡ bytesOf (q .unfinished) → r .total ≡ q .total → r .kept ≡ q .kept → r ≡ q
   same-ended a u t s = let v = same-bytes (r .unfinished) (q .unfinished) u in λ i. record { answer = a i; unfinished = v i; total = t i; kept = s i }
 
-  one-going : (total : ℕ) (left : List ℕ) → Goes total left r → Goes total left q → r ≡ q
+  pub one-going : (total : ℕ) (left : List ℕ) → Goes total left r → Goes total left q → r ≡ q
   one-going total left h g =
       same-ended (same-answer (r .answer) (q .answer) (h .numbered ∙ sym (g .numbered)) (h .placed ∙ sym (g .placed)))
       (h .unfinished ∙ sym (g .unfinished)) (h .counted ∙ sym (g .counted)) (h .stands ∙ sym (g .stands))

@@ -1,26 +1,54 @@
 -- `account_ends::ended::settled` meets its contract: by how the walk ended. A stop is within the packet, and what is cut short there has at most four bytes.
 -- Assumes nothing.
 use native.Mathlib.Omega.{arith}
-use Prim.Native.Nat.{_+_, _≤_}
-use mathlib.Core.Path.{refl, sym, ap, _∙_, subst}
-use lib.ListN.{length, drop, length-drop}
+use Prim.Native.Nat.{ℕ, _+_, _-_, _≤_}
+use mathlib.Core.Path.{_≡_, refl, sym, ap, _∙_, subst}
+use mathlib.Core.List.{List}
+use lib.ListN.{length, take, drop, length-drop}
 use lib.Seq.{drop-drop}
+use Rattle.terms.specs.declared.Place.{Place}
 use Rattle.recording.specs.Laws.{part-from}
+use Rattle.recording.specs.Cut.{Open}
 use Rattle.recording.specs.declared.ending.Ending.{Ending}
 use Rattle.recording.specs.declared.ending.Ending.the-variants.{Stops}
 use Rattle.recording.specs.declared.read.Refusal.{Refusal}
 use Rattle.recording.specs.declared.read.Refusal.the-variants.{CutShort}
-use Rattle.account_ends.specs.Ended.{EndOf}
+use Rattle.account_ends.specs.declared.ended.Ended.{Ended}
+use Rattle.account_ends.specs.Ended.{ByEnd, EndOf, halted}
 use Rattle.account_ends.specs.Laws.{goes-so, halts-so, stop-within, cut-within}
 use borrow.Author.Needs.{needs}
 use Rattle.account_ends.proofs.ended.settled.Statement.{statement}
 use Rattle.account_ends.proofs.ended.settled.Tie as tie
 
--- How far the stop is within the packet.
-within : (c : tie.After-struct-known) → c .before .before .before .before .before .args .from + c .before .before .ending .given .0 .1 .0 .0 ≤ length (c .before .before .before .before .before .args .packet .now)
-within c = let a = c .before .before .before .before .before .args in
-    let s = stop-within (drop (a .from) (a .packet .now)) (subst (λ (e : Ending). EndOf e (drop (a .from) (a .packet .now))) (c .before .before .ending .given .1) (c .before .before .before .before .before .pre .2)) in
-    omega (arith, s, length-drop (a .from) (a .packet .now), c .before .before .before .before .before .pre .0)
+-- Where the walk stopped, from the start s: within the packet, and a refusal that is told there stands.
+module _ (c : tie.After-struct-known) where
+  abbrev s : tie.Start
+  s = c .before .before .before .before .before
+
+  abbrev x : Refusal
+  x = c .before .before .ending .given .0 .0
+
+  abbrev at : Place
+  at = c .before .before .ending .given .0 .1 .0
+
+  abbrev row : List ℕ
+  row = drop (s .args .from) (s .args .packet .now)
+
+  ends : (y : Refusal) → x ≡ y → EndOf (Stops y at) row
+  ends y is = subst (λ (e : Ending). EndOf e row) (c .before .before .ending .given .1 ∙ ap (λ (z : Refusal). Stops z at) is) (s .pre .2)
+
+  within : s .args .from + at .0 ≤ length (s .args .packet .now)
+  within = omega (arith, stop-within row (ends x refl), length-drop (s .args .from) (s .args .packet .now), s .pre .0)
+
+  refusing : (y : Refusal) → x ≡ y → (Open (Stops y at) → ⊥) → (r : Ended) → r ≡ halted (s .args .total) x (s .args .total + (s .args .from + at .0))
+      → ByEnd (s .args .ending) (s .args .total + s .args .from) (s .args .total) (s .args .total + length (s .args .packet .now)) row r
+  refusing y is shut r e =
+      halts-so (s .args .total + s .args .from) (s .args .total) (s .args .total + length (s .args .packet .now)) row (s .args .ending) x y at
+      (s .args .total + (s .args .from + at .0)) r (c .before .before .ending .given .1) is shut (omega arith) e
+
+  -- What is cut short, as a part of the packet.
+  left : take (length (s .args .packet .now) - (s .args .from + at .0)) (drop (s .args .from + at .0) (s .args .packet .now)) ≡ drop (at .0) row
+  left = part-from (s .args .from + at .0) (s .args .packet .now) ∙ sym (drop-drop (at .0) (s .args .from) (s .args .packet .now))
 
 add-sum : tie.Need-add-sum
 add-sum c = search needs
@@ -53,13 +81,8 @@ part-held-end : tie.Need-part-held-end
 part-held-end c = search needs
 
 held-requires : tie.Need-held-requires
-held-requires c κs = let s = c .before .before .before .before .before .before .before .before in
-    let l = s .args .packet .now in
-    let from = s .args .from in
-    let at = c .before .before .before .before .before .ending .given .0 .1 .0 in
-    let q = c .before .before .before .before .before .ending .given .1 ∙ ap (λ (x : Refusal). Stops x at) (c .before .enum-told2 .given .1) in
-    let n = cut-within {at = at} (drop from l) (subst (λ (e : Ending). EndOf e (drop from l)) q (s .pre .2)) in
-    omega (arith, n, ap length (part-from (from + at .0) l ∙ sym (drop-drop (at .0) from l)))
+held-requires c κs = let k = c .before .before .before in
+    omega (arith, cut-within (row k) (ends k CutShort (c .before .enum-told2 .given .1)), ap length (left k))
 
 went-on-requires-2 : tie.Need-went-on-requires-2
 went-on-requires-2 c κs = search needs
@@ -86,25 +109,18 @@ returns : tie.Need-returns
 returns c = rw (c .before .enum-told .given .1, c .went-on .ensures) (goes-so _ _ _ refl)
 
 returns-2 : tie.Need-returns-2
-returns-2 c = let a = c .before .before .before .before .before .before .before .before .before .before .args in
-    let at = c .before .before .before .before .before .before .before .ending .given .0 .1 .0 in
-    rw (c .before .before .before .before .before .before .before .ending .given .1, c .before .before .before .enum-told2 .given .1, c .went-on2 .ensures)
-    (goes-so (c .before .held .result) _ _ (c .before .held .ensures ∙ part-from (a .from + at .0) (a .packet .now) ∙ sym (drop-drop (at .0) (a .from) (a .packet .now))))
+returns-2 c = let k = c .before .before .before .before .before in
+    rw (k .before .before .ending .given .1, c .before .before .before .enum-told2 .given .1, c .went-on2 .ensures)
+    (goes-so (c .before .held .result) _ _ (c .before .held .ensures ∙ left k))
 
 returns-3 : tie.Need-returns-3
-returns-3 c = let a = c .before .before .before .before .before .before .before .before .args in
-    let stop = c .before .before .before .before .before .ending .given in
-    halts-so (a .total + a .from) (a .total) (a .total + length (a .packet .now)) (drop (a .from) (a .packet .now)) (a .ending) _ _ (stop .0 .1 .0) (a .total + (a .from + stop .0 .1 .0 .0)) _ (stop .1) (c .before .enum-told3 .given .1) (λ o. o) (omega arith) (c .halts .ensures)
+returns-3 c = refusing (c .before .before .before) _ (c .before .enum-told3 .given .1) (λ o. o) _ (c .halts .ensures)
 
 returns-4 : tie.Need-returns-4
-returns-4 c = let a = c .before .before .before .before .before .before .before .before .args in
-    let stop = c .before .before .before .before .before .ending .given in
-    halts-so (a .total + a .from) (a .total) (a .total + length (a .packet .now)) (drop (a .from) (a .packet .now)) (a .ending) _ _ (stop .0 .1 .0) (a .total + (a .from + stop .0 .1 .0 .0)) _ (stop .1) (c .before .enum-told4 .given .1) (λ o. o) (omega arith) (c .halts2 .ensures)
+returns-4 c = refusing (c .before .before .before) _ (c .before .enum-told4 .given .1) (λ o. o) _ (c .halts2 .ensures)
 
 returns-5 : tie.Need-returns-5
-returns-5 c = let a = c .before .before .before .before .before .before .before .before .args in
-    let stop = c .before .before .before .before .before .ending .given in
-    halts-so (a .total + a .from) (a .total) (a .total + length (a .packet .now)) (drop (a .from) (a .packet .now)) (a .ending) _ _ (stop .0 .1 .0) (a .total + (a .from + stop .0 .1 .0 .0)) _ (stop .1) (c .before .enum-told5 .given .1) (λ o. o) (omega arith) (c .halts3 .ensures)
+returns-5 c = refusing (c .before .before .before) _ (c .before .enum-told5 .given .1) (λ o. o) _ (c .halts3 .ensures)
 
 pub settled-spec : {M : Type 1} → statement M
 settled-spec =

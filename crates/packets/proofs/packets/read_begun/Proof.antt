@@ -9,7 +9,7 @@ use lib.Seq.{length-take-le}
 use Rattle.recording.specs.Start.{body-four}
 use Rattle.recording.specs.Steps.{stops-within}
 use Rattle.panel_walks.specs.Walks.{Walks}
-use Rattle.account.specs.Bytes.{bytesOf, wholeOf}
+use Rattle.account.specs.Bytes.{bytesOf, firstFive, wholeOf}
 use Rattle.account.specs.Laws.{first-take}
 use Rattle.packets.specs.declared.records.Taken.{Taken}
 use Rattle.packets.specs.Takes.{ReadsWith}
@@ -22,16 +22,28 @@ use Rattle.packets.proofs.packets.read_begun.Tie as tie
 within : (c : tie.After-whole-of) → c .whole-of .result ≤ length (c .before .joined .result)
 within c = omega (arith, body-four (getD (bytesOf (c .before .before .before .args .unfinished)) 0 0), c .whole-of .ensures, ap length (c .before .joined .ensures))
 
--- What the walk promises, of the record's own bytes.
-walks : (c : tie.After-panel-walk) → Walks (c .before .before .before .before .before .args .part) (c .before .before .before .before .before .args .panel) (take (wholeOf (bytesOf (c .before .before .before .before .before .args .unfinished))) (bytesOf (c .before .before .before .before .before .args .unfinished) ++ c .before .before .before .before .before .args .packet .now)) (c .panel-walk .result)
-walks c =
-    let s = c .before .before .before .before .before in
-    let a = s .args in
-    let x = bytesOf (a .unfinished) ++ a .packet .now in
-    let long = c .before .before .whole-of .result in
-    let n = c .before .before .whole-of .ensures in
-    let e : take long (c .before .before .before .joined .result) ≡ take (wholeOf (bytesOf (a .unfinished))) x = ap (take long) (c .before .before .before .joined .ensures) ∙ first-take x long (omega (arith, body-four (getD (bytesOf (a .unfinished)) 0 0), n)) (omega (arith, n, length-append (bytesOf (a .unfinished)) (a .packet .now), s .pre .2, s .pre .3)) ∙ ap (λ (i : ℕ). take i x) n in
-    subst (λ (m : List ℕ). Walks (a .part) (a .panel) m (c .panel-walk .result)) e (c .panel-walk .ensures)
+-- What the walk promises, of the record's own bytes, from the start s.
+module _ (c : tie.After-panel-walk) where
+  abbrev s : tie.Start
+  s = c .before .before .before .before .before
+
+  abbrev u : List ℕ
+  u = bytesOf (s .args .unfinished)
+
+  abbrev l : List ℕ
+  l = s .args .packet .now
+
+  come : wholeOf u ≤ length (u ++ l)
+  come = omega (arith, length-append u l, s .pre .2, s .pre .3)
+
+  own : take (c .before .before .whole-of .result) (c .before .before .before .joined .result) ≡ take (wholeOf u) (u ++ l)
+  own =
+      let n = c .before .before .whole-of .ensures in
+      ap (take (c .before .before .whole-of .result)) (c .before .before .before .joined .ensures)
+      ∙ ap (λ (i : ℕ). take i (firstFive (u ++ l))) n ∙ first-take (u ++ l) (wholeOf u) (omega (arith, body-four (getD u 0 0))) come
+
+  walks : Walks (s .args .part) (s .args .panel) (take (wholeOf u) (u ++ l)) (c .panel-walk .result)
+  walks = subst (λ (m : List ℕ). Walks (s .args .part) (s .args .panel) m (c .panel-walk .result)) own (c .panel-walk .ensures)
 
 joined-requires : tie.Need-joined-requires
 joined-requires c κs = search needs
@@ -59,34 +71,29 @@ enum-known-ending c = search needs
 
 begun-refused-requires : tie.Need-begun-refused-requires
 begun-refused-requires c κs =
-    let walk = c .before .before .before .before in
-    let s = walk .before .before .before .before .before in
-    let x = bytesOf (s .args .unfinished) ++ s .args .packet .now in
+    let k = c .before .before .before .before in
     let stop = c .before .ending .given in
-    let i = stops-within (s .args .part) (take (wholeOf (bytesOf (s .args .unfinished))) x) _ (stop .0 .1 .0) (sym (walks walk .ended) ∙ stop .1) in
-    let t = length-take-le (wholeOf (bytesOf (s .args .unfinished))) x (omega (arith, length-append (bytesOf (s .args .unfinished)) (s .args .packet .now), s .pre .2, s .pre .3)) in
-    (s .pre .0 .counted, omega (arith, i, t, body-four (getD (bytesOf (s .args .unfinished)) 0 0)))
+    let i = stops-within (s k .args .part) (take (wholeOf (u k)) (u k ++ l k)) _ (stop .0 .1 .0) (sym (walks k .ended) ∙ stop .1) in
+    (s k .pre .0 .counted, omega (arith, i, length-take-le (wholeOf (u k)) (u k ++ l k) (come k), body-four (getD (u k) 0 0)))
 
 with-panel-requires : tie.Need-with-panel-requires
 with-panel-requires c κs = search needs
 
 returns : tie.Need-returns
 returns c =
-    let walk = c .before .before .before .before in
-    let s = walk .before .before .before .before .before in
-    let a = s .args in
-    let w = walks walk in
-    joined-done (a .part) (a .panel) (a .total) (a .total + length (a .packet .now)) (bytesOf (a .unfinished)) (a .packet .now) (s .pre .0) (walk .panel-walk .result .panel) (a .from) (s .pre .2) (s .pre .3) (w .known) (w .kept) (c .read-from .result) (sym (c .before .enum-told .given .1) ∙ w .ended) (c .read-from .ensures)
+    let k = c .before .before .before .before in
+    let a = s k .args in
+    joined-done (a .part) (a .panel) (a .total) (a .total + length (l k)) (u k) (l k) (s k .pre .0) (k .panel-walk .result .panel) (a .from) (s k .pre .2) (s k .pre .3)
+    (walks k .known) (walks k .kept) (c .read-from .result) (sym (c .before .enum-told .given .1) ∙ walks k .ended) (c .read-from .ensures)
 
 returns-2 : tie.Need-returns-2
 returns-2 c =
-    let walk = c .before .before .before .before .before .before in
-    let s = walk .before .before .before .before .before in
-    let a = s .args in
-    let w = walks walk in
+    let k = c .before .before .before .before .before .before in
+    let a = s k .args in
     let stop = c .before .before .before .ending .given in
-    subst⁻¹ (λ (x : Taken). ReadsWith (a .part) (a .panel) (a .unfinished) (a .total) (a .packet .now) x) (c .with-panel .ensures)
-    (joined-halts (a .part) (a .panel) (a .total) (a .total + length (a .packet .now)) (bytesOf (a .unfinished)) (a .packet .now) (s .pre .0) (walk .panel-walk .result .panel) (a .from) (s .pre .2) (s .pre .3) (w .known) (w .kept) (stop .0 .0) (stop .0 .1 .0) (c .before .begun-refused .result) (sym (stop .1) ∙ w .ended) (c .before .begun-refused .ensures))
+    subst⁻¹ (λ (x : Taken). ReadsWith (a .part) (a .panel) (a .unfinished) (a .total) (l k) x) (c .with-panel .ensures)
+    (joined-halts (a .part) (a .panel) (a .total) (a .total + length (l k)) (u k) (l k) (s k .pre .0) (k .panel-walk .result .panel) (a .from) (s k .pre .2) (s k .pre .3)
+    (walks k .known) (walks k .kept) (stop .0 .0) (stop .0 .1 .0) (c .before .begun-refused .result) (sym (stop .1) ∙ walks k .ended) (c .before .begun-refused .ensures))
 
 pub read-begun-spec : {M : Type 1} → statement M
 read-begun-spec =

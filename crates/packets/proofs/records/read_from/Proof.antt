@@ -1,7 +1,8 @@
 -- `packets::records::read_from` meets its contract: the walk tells how the records end and what is known then, and the account is settled by that.
 -- Assumes nothing.
-use Prim.Native.Nat.{_+_}
+use Prim.Native.Nat.{ℕ, _+_}
 use mathlib.Core.Path.{sym, subst, subst⁻¹}
+use mathlib.Core.List.{List}
 use lib.ListN.{length, drop}
 use Rattle.recording.specs.Laws.{part-from}
 use Rattle.panel_walks.specs.Walks.{Walks}
@@ -12,10 +13,16 @@ use borrow.Author.Needs.{needs}
 use Rattle.packets.proofs.records.read_from.Statement.{statement}
 use Rattle.packets.proofs.records.read_from.Tie as tie
 
--- What the walk promises, of the bytes from the place on.
-walks : (c : tie.After-panel-walk) → Walks (c .before .before .before .args .part) (c .before .before .before .args .panel) (drop (c .before .before .before .args .from) (c .before .before .before .args .packet .now)) (c .panel-walk .result)
-walks c = let a = c .before .before .before .args in
-    subst (λ m. Walks (a .part) (a .panel) m (c .panel-walk .result)) (part-from (a .from) (a .packet .now)) (c .panel-walk .ensures)
+-- What the walk promises, of the bytes from the place on, from the start s.
+module _ (c : tie.After-panel-walk) where
+  abbrev s : tie.Start
+  s = c .before .before .before
+
+  abbrev l : List ℕ
+  l = drop (s .args .from) (s .args .packet .now)
+
+  walks : Walks (s .args .part) (s .args .panel) l (c .panel-walk .result)
+  walks = subst (λ m. Walks (s .args .part) (s .args .panel) m (c .panel-walk .result)) (part-from (s .args .from) (s .args .packet .now)) (c .panel-walk .ensures)
 
 sub-panel-walk : tie.Need-sub-panel-walk
 sub-panel-walk c = search needs
@@ -30,17 +37,18 @@ panel-walk-requires : tie.Need-panel-walk-requires
 panel-walk-requires c κs = search needs
 
 settled-requires : tie.Need-settled-requires
-settled-requires c κs = let s = c .before .before .before .before in (s .pre .0, s .pre .1, (s .args .part, sym (walks (c .before) .ended)))
+settled-requires c κs = let k = c .before in (s k .pre .0, s k .pre .1, (s k .args .part, sym (walks k .ended)))
 
 with-panel-requires : tie.Need-with-panel-requires
 with-panel-requires c κs = search needs
 
 returns : tie.Need-returns
-returns c = let a = c .before .before .before .before .before .before .args in
-    let l = drop (a .from) (a .packet .now) in
-    let w = walks (c .before .before .before) in
-    subst⁻¹ (λ (x : Taken). ReadsRow (a .part) (a .panel) (a .total + a .from) (a .total) (a .total + length (a .packet .now)) l x) (c .with-panel .ensures)
-    (row-ends (a .part) (a .panel) (c .before .before .before .panel-walk .result .panel) (a .total + a .from) (a .total) (a .total + length (a .packet .now)) l (c .before .settled .result) _ (w .known) (w .kept) (w .ended) (c .before .settled .ensures))
+returns c =
+    let k = c .before .before .before in
+    let a = s k .args in
+    subst⁻¹ (λ (x : Taken). ReadsRow (a .part) (a .panel) (a .total + a .from) (a .total) (a .total + length (a .packet .now)) (l k) x) (c .with-panel .ensures)
+    (row-ends (a .part) (a .panel) (k .panel-walk .result .panel) (a .total + a .from) (a .total) (a .total + length (a .packet .now)) (l k) (c .before .settled .result) _
+    (walks k .known) (walks k .kept) (walks k .ended) (c .before .settled .ensures))
 
 pub read-from-spec : {M : Type 1} → statement M
 read-from-spec =
