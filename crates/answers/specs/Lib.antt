@@ -1,3 +1,4 @@
 pub mod Answer
 pub mod Told
 pub mod Unique
+pub mod Ended

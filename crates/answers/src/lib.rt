@@ -1,8 +1,10 @@
 // What a call that reads a recording answers.
+use recording::Ending;
 use recording::Refusal;
 use terms::Place;
 ghost use mathlib.Core.Path.{_≡_};
 ghost use Rattle.answers.specs.Answer.{refusedAs, number, place};
+ghost use Rattle.answers.specs.Ended.{Inside, endedAs};
 
 // Done, with the recording's length, or why not: numbers 1 to 8, each at its place.
 pub enum Answer {
@@ -33,6 +35,18 @@ pub fn refused(refusal: Refusal, at: Place) -> Answer
         Refusal::Foreign => Answer::Foreign(at),
         Refusal::CutShort => Answer::CutShort(at),
         Refusal::Forbidden => Answer::Forbidden(at),
+    }
+}
+
+// The answer where the records end: done at the recording's length, or refused at the first byte of the record that is none. The records began at the
+// place `from`, and places are counted from the recording's front.
+pub fn ended(ending: Ending, from: usize, length: usize) -> Answer
+    requires { ⌜ Inside ending from length ⌝ }
+    ensures { λ r. ⌜ r ≡ endedAs ending from length ⌝ }
+{
+    match ending {
+        Ending::Done => Answer::Done(Place(length)),
+        Ending::Stops(refusal, at) => refused(refusal, Place(from + at.0)),
     }
 }
 

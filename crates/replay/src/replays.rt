@@ -1,7 +1,7 @@
 // The replay for all parts: the part byte is looked at once.
 use answers::Answer;
 use answers::Trial;
-use answers::refused;
+use answers::ended;
 use panel::Panel;
 use panel_walks::panel_walk;
 use recording::Ending;
@@ -53,14 +53,12 @@ fn replay_from(part: Part, panel: Panel, recording: &[u8], from: usize) -> Repla
     let walked = panel_walk(part, panel, &recording[from..]);
     let ending = walked.ending;
     let after = walked.panel;
+    let answer = ended(ending, from, recording.len());
     match ending {
         Ending::Done => Replayed {
-            answer: Answer::Done(Place(recording.len())),
+            answer,
             panel: after,
         },
-        Ending::Stops(refusal, at) => Replayed {
-            answer: refused(refusal, Place(from + at.0)),
-            panel,
-        },
+        Ending::Stops(_, _) => Replayed { answer, panel },
     }
 }
