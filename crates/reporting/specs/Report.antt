@@ -13,7 +13,7 @@ use Rattle.segment.specs.Family.{sizes}
 use Rattle.segment.specs.Fact.{same?, range}
 use Rattle.segment.specs.Sent.{sent}
 use Rattle.segment_knowledge.specs.View.{kview}
-use Rattle.segment_sent.specs.Report.{sending}
+use Rattle.sendings.specs.Report.{sending}
 use Rattle.panel.specs.declared.knowledge.Panel.{Panel}
 use Rattle.reporting.specs.declared.reports.Report.{Report}
 use Rattle.reporting.specs.declared.reports.Report.the-variants.{Is, NoPart, OutOfRange}

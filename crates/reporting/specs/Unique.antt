@@ -9,9 +9,9 @@ use Rattle.terms.specs.declared.PartRead.{PartRead}
 use Rattle.terms.specs.declared.PartRead.the-variants.{Is as IsPart, Refused}
 use Rattle.segment.specs.declared.chip.Family.{Family}
 use Rattle.segment.specs.declared.chip.Family.the-variants as OfFamily
-use Rattle.segment_sent.specs.declared.report.Sending.{Sending}
-use Rattle.segment_sent.specs.declared.report.Sending.the-variants.{Byte, NotDriven, Unknown}
-use Rattle.segment_sent.specs.Report.{sending}
+use Rattle.sendings.specs.declared.Sending.{Sending}
+use Rattle.sendings.specs.declared.Sending.the-variants.{Byte, NotDriven, Unknown}
+use Rattle.sendings.specs.Report.{sending}
 use Rattle.panel.specs.declared.knowledge.Panel.{Panel}
 use Rattle.reporting.specs.declared.reports.Report.{Report}
 use Rattle.reporting.specs.declared.reports.Report.the-variants as R

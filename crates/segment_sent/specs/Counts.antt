@@ -22,9 +22,9 @@ use Rattle.segment.specs.declared.chip.Family.the-variants.{Pt6312, Pt6315}
 use Rattle.segment.specs.Family.{sizes}
 use Rattle.segment.specs.Fact.{Fact, same?, lacking, range, dataMode, key, switches, readCount}
 use Rattle.segment.specs.Sent.{notDriven, says, keySent, switchesSent}
-use Rattle.segment_sent.specs.declared.report.Sending.{Sending}
-use Rattle.segment_sent.specs.declared.report.Sending.the-variants.{NotDriven}
-use Rattle.segment_sent.specs.Report.{reports}
+use Rattle.sendings.specs.declared.Sending.{Sending}
+use Rattle.sendings.specs.declared.Sending.the-variants.{NotDriven}
+use Rattle.sendings.specs.Report.{reports}
 
 -- Two ways that cannot agree.
 module _ (n : ℕ) (s : ℕ → Standing) (i j : ℕ) (li : i < n) (lj : j < n) where

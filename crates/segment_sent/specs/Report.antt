@@ -1,26 +1,16 @@
--- A report as what is known of the byte to be sent next, not driven being one more value than a byte has.
+-- What the report's rule makes of a knowledge.
 use Prim.Native.Nat.{ℕ}
 use Rattle.rules.specs.Rule.{Rule}
-use Rattle.knowing.specs.Standing.{Standing, known, unknown, Within, Sound}
+use Rattle.knowing.specs.Standing.{Standing, unknown, Within, Sound}
 use Rattle.knowing.specs.Ways as Ways
 use Rattle.segment.specs.declared.chip.Sizes.{Sizes}
 use Rattle.segment.specs.Fact.{Fact, same?, range, address, dataMode, stepping, mode, dimming, display, led, key, switches, readCount, position}
 use Rattle.segment.specs.Laws.{every}
-use Rattle.segment.specs.Sent.{notDriven}
 use Rattle.segment_knowledge.specs.declared.control.Control.{Control}
 use Rattle.segment_knowledge.specs.declared.knowledge.Knowledge.{Knowledge}
 use Rattle.segment_knowledge.specs.View.{cview, kview}
-use Rattle.segment_sent.specs.declared.report.Sending.{Sending}
-use Rattle.segment_sent.specs.declared.report.Sending.the-variants.{Byte, NotDriven, Unknown}
-
-abbrev pub sending : Sending → Standing
-sending (Byte b) = known b
-sending NotDriven = known notDriven
-sending Unknown = unknown
-
--- There is one thing to report.
-abbrev pub reports : Sending → Unit {0} → Standing
-reports r _ = sending r
+use Rattle.sendings.specs.declared.Sending.{Sending}
+use Rattle.sendings.specs.Report.{reports}
 
 -- What is known beside the cells.
 abbrev pub bare : Control → Fact → Standing

@@ -1,6 +1,4 @@
 // The byte to be sent next, by what is known of the position, the data mode and the read count.
-use crate::join::both_sent;
-use crate::report::Sending;
 use segment::Family;
 use segment_knowledge::Control;
 use segment_knowledge::OPEN;
@@ -8,6 +6,8 @@ use segment_knowledge::READ_KEYS;
 use segment_knowledge::READ_SWITCHES;
 use segment_knowledge::at;
 use segment_knowledge::with_data;
+use sendings::Sending;
+use sendings::both_sent;
 use standing::Standing;
 ghost use mathlib.Core.Path.{_≡_};
 ghost use Prim.Native.Nat.{_<_};
@@ -18,7 +18,8 @@ ghost use Rattle.standing.specs.View.{coded};
 ghost use Rattle.segment.specs.Family.{sizes};
 ghost use Rattle.segment.specs.Fact.{range, dataMode, readCount, switches};
 ghost use Rattle.segment.specs.Sent.{sent, sentAt, openSent, keySent, switchesSent};
-ghost use Rattle.segment_sent.specs.Report.{bare, sending, Reports};
+ghost use Rattle.sendings.specs.Report.{sending};
+ghost use Rattle.segment_sent.specs.Report.{bare, Reports};
 
 // What is sent next, for a knowledge whose known values are in range. The memory has no part in it.
 pub fn sent_next(family: Family, c: Control) -> Sending

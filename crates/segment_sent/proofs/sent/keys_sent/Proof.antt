@@ -7,7 +7,8 @@ use Rattle.knowing.specs.Ways.{known-way}
 use mathlib.Core.Path.{ap}
 use Rattle.segment.specs.Family.{sizes}
 use Rattle.segment.specs.Fact.{same?, range, readCount}
-use Rattle.segment_sent.specs.Report.{bare, reports}
+use Rattle.sendings.specs.Report.{reports}
+use Rattle.segment_sent.specs.Report.{bare}
 use Rattle.segment_knowledge.specs.View.{cview}
 use Rattle.knowing.specs.Standing.{unknown}
 use borrow.Author.Needs.{needs}

@@ -8,7 +8,7 @@ use Rattle.knowing.specs.Ways.{known-way}
 use mathlib.Core.Path.{ap}
 use Rattle.segment.specs.Family.{sizes}
 use Rattle.segment.specs.Fact.{same?, range, dataMode}
-use Rattle.segment_sent.specs.Report.{reports}
+use Rattle.sendings.specs.Report.{reports}
 use Rattle.segment_knowledge.specs.View.{cview}
 use borrow.Author.Needs.{needs}
 use Rattle.segment_sent.proofs.sent.open_sent.Statement.{statement}

@@ -1,6 +1,6 @@
 -- `segment_sent::sent::sent_at` meets its contract: open goes by the data mode, and else nothing is driven.
 -- Assumes nothing.
-use Rattle.segment_sent.specs.declared.report.Sending.the-variants.{NotDriven}
+use Rattle.sendings.specs.declared.Sending.the-variants.{NotDriven}
 use Rattle.segment_sent.specs.Counts.{other-place}
 use Rattle.segment.specs.Sent.{notDriven, says, sentAt}
 use Rattle.rules.specs.Rule.{value}
@@ -8,7 +8,7 @@ use Rattle.knowing.specs.Ways.{as-rule}
 use mathlib.Core.Path.{refl}
 use Rattle.segment.specs.Family.{sizes}
 use Rattle.segment.specs.Fact.{same?, range}
-use Rattle.segment_sent.specs.Report.{reports}
+use Rattle.sendings.specs.Report.{reports}
 use Rattle.segment_knowledge.specs.View.{cview}
 use borrow.Author.Needs.{needs}
 use Rattle.segment_sent.proofs.sent.sent_at.Statement.{statement}

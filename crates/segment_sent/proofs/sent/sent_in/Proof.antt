@@ -1,6 +1,6 @@
 -- `segment_sent::sent::sent_in` meets its contract: each data mode goes by its rule.
 -- Assumes nothing.
-use Rattle.segment_sent.specs.declared.report.Sending.the-variants.{NotDriven}
+use Rattle.sendings.specs.declared.Sending.the-variants.{NotDriven}
 use mathlib.Core.Path.{subst}
 use Prim.Native.Nat.{_<_}
 use Rattle.segment_sent.specs.Counts.{other-mode, switched-in}
@@ -10,7 +10,8 @@ use Rattle.knowing.specs.Ways.{as-rule}
 use mathlib.Core.Path.{refl}
 use Rattle.segment.specs.Family.{sizes}
 use Rattle.segment.specs.Fact.{same?, range, dataMode}
-use Rattle.segment_sent.specs.Report.{bare, reports}
+use Rattle.sendings.specs.Report.{reports}
+use Rattle.segment_sent.specs.Report.{bare}
 use Rattle.segment_knowledge.specs.View.{cview}
 use borrow.Author.Needs.{needs}
 use Rattle.segment_sent.proofs.sent.sent_in.Statement.{statement}

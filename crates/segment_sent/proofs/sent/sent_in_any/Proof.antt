@@ -3,14 +3,15 @@
 use Rattle.knowing.specs.Standing.{Within, Sound, unknown}
 use mathlib.Core.Path.{subst, subst⁻¹}
 use Rattle.segment_sent.specs.Counts.{undriven, mode-room, switches-in}
-use Rattle.segment_sent.specs.declared.report.Sending.the-variants.{NotDriven}
+use Rattle.sendings.specs.declared.Sending.the-variants.{NotDriven}
 use Rattle.segment.specs.Sent.{openSent, keySent, switchesSent}
 use Rattle.rules.specs.Rule.{look}
 use Rattle.knowing.specs.Ways.{way, first-way, next-way, all-ways, learns-sound}
 use mathlib.Core.Path.{refl, ap}
 use Rattle.segment.specs.Family.{sizes}
 use Rattle.segment.specs.Fact.{same?, range, dataMode, readCount, switches}
-use Rattle.segment_sent.specs.Report.{bare, reports}
+use Rattle.sendings.specs.Report.{reports}
+use Rattle.segment_sent.specs.Report.{bare}
 use Rattle.segment_knowledge.specs.View.{cview}
 use borrow.Author.Needs.{needs}
 use Rattle.segment_sent.proofs.sent.sent_in_any.Statement.{statement}

@@ -2,7 +2,7 @@
 -- Assumes nothing.
 use native.Mathlib.Omega.{arith}
 use Rattle.segment_sent.specs.Counts.{undriven, again}
-use Rattle.segment_sent.specs.declared.report.Sending.the-variants.{NotDriven}
+use Rattle.sendings.specs.declared.Sending.the-variants.{NotDriven}
 use Rattle.segment.specs.Sent.{sentAt, openSent}
 use Rattle.standing.specs.View.{stands}
 use Rattle.rules.specs.Rule.{look}
@@ -10,7 +10,8 @@ use Rattle.knowing.specs.Ways.{way, known-way, first-way, next-way, all-ways, l
 use mathlib.Core.Path.{refl, ap}
 use Rattle.segment.specs.Family.{sizes}
 use Rattle.segment.specs.Fact.{same?, range, dataMode, position}
-use Rattle.segment_sent.specs.Report.{bare, reports}
+use Rattle.sendings.specs.Report.{reports}
+use Rattle.segment_sent.specs.Report.{bare}
 use Rattle.segment_knowledge.specs.View.{cview}
 use Rattle.knowing.specs.Standing.{unknown}
 use borrow.Author.Needs.{needs}

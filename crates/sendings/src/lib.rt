@@ -1,8 +1,17 @@
-// What two reports have in common.
-use crate::report::Sending;
+// The report of the byte to be sent next, as a value.
 ghost use Rattle.knowing.specs.Ways.{Joins};
-ghost use Rattle.segment_sent.specs.Report.{reports};
+ghost use Rattle.sendings.specs.Report.{reports};
 
+pub enum Sending {
+    // All chips that fit send this byte.
+    Byte(u8),
+    // None drives the line.
+    NotDriven,
+    // They do not agree.
+    Unknown,
+}
+
+// What two reports have in common.
 pub fn both_sent(a: Sending, b: Sending) -> Sending
     ensures { λ r. ⌜ Joins reports a b r ⌝ }
 {

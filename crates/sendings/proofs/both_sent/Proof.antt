@@ -1,13 +1,13 @@
--- `segment_sent::join::both_sent` meets its contract: each arm is one case of what two ways have in common; not driven is no byte.
+-- `sendings::both_sent` meets its contract: each arm is one case of what two ways have in common; not driven is no byte.
 -- Assumes nothing.
 use native.Mathlib.Omega.{arith}
-use Rattle.segment_sent.specs.Report.{sending}
+use Rattle.sendings.specs.Report.{sending}
 use Rattle.knowing.specs.Standing.{known}
 use mathlib.Core.Path.{sym, ap, _∙_}
 use Rattle.knowing.specs.Join.{join-not, join-nor, join-other, join-both}
 use borrow.Author.Needs.{needs}
-use Rattle.segment_sent.proofs.join.both_sent.Statement.{statement}
-use Rattle.segment_sent.proofs.join.both_sent.Tie as tie
+use Rattle.sendings.proofs.both_sent.Statement.{statement}
+use Rattle.sendings.proofs.both_sent.Tie as tie
 
 enum-known-a : tie.Need-enum-known-a
 enum-known-a c = search needs
