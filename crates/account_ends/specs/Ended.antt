@@ -12,11 +12,11 @@ use Rattle.recording.specs.declared.read.Refusal.{Refusal}
 use Rattle.recording.specs.declared.read.Refusal.the-variants.{Unlisted, Foreign, CutShort, Forbidden}
 use Rattle.answers.specs.declared.Answer.the-variants as A
 use Rattle.answers.specs.Answer.{number, place, refusedAs}
-use Rattle.account_ends.specs.declared.ended.Ended.{Ended}
 use Rattle.account.specs.declared.kept.Kept.the-variants as Stands
 use Rattle.account.specs.declared.unfinished.Unfinished.{Unfinished}
 use Rattle.account.specs.declared.unfinished.Unfinished.the-variants as Left
 use Rattle.account.specs.Bytes.{bytesOf}
+use Rattle.account_ends.specs.declared.ended.Ended.{Ended}
 
 -- Number 0 at the total, which now counts the packet's bytes, too; `left` is unfinished, and no refusal stands.
 pub record Goes (total : ℕ) (left : List ℕ) (r : Ended) : Type 0 where

@@ -15,9 +15,9 @@ use Rattle.recording.specs.declared.ending.Ending.{Ending}
 use Rattle.recording.specs.declared.ending.Ending.the-variants.{Done, Stops}
 use Rattle.recording.specs.declared.read.Refusal.{Refusal}
 use Rattle.recording.specs.declared.read.Refusal.the-variants.{Unlisted, Foreign, CutShort, Forbidden}
-use Rattle.account_ends.specs.declared.ended.Ended.{Ended}
 use Rattle.account.specs.declared.unfinished.Unfinished.{Unfinished}
 use Rattle.account.specs.Bytes.{bytesOf}
+use Rattle.account_ends.specs.declared.ended.Ended.{Ended}
 use Rattle.account_ends.specs.Ended.{Goes, Halts, ByEnd, EndOf, went, halted}
 
 -- The two ends, written out, say what they are.
