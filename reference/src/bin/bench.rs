@@ -1,4 +1,7 @@
 //! Replays one recording many times in memory, and prints a checksum over all that came out.
+//!
+//! It reads what the proved program reads, and so the size of a packet, too. It has no packets, and replays the whole
+//! recording whatever the size: an accepted recording comes to the same in packets.
 
 use reference::checksum::Checksum;
 use reference::knowledge::replay_from_nothing;
@@ -22,12 +25,10 @@ fn main() -> io::Result<()> {
     Ok(())
 }
 
-/// The rounds in two bytes, low byte first, then the part byte and the recording; what is missing counts as 0.
+/// The rounds and the size of a packet, each in two bytes, low byte first, then the part byte and the recording; what is
+/// missing counts as 0.
 fn parse(input: &[u8]) -> (u16, u8, &[u8]) {
-    match input {
-        [low, high, part, recording @ ..] => (u16::from_le_bytes([*low, *high]), *part, recording),
-        [low, high] => (u16::from_le_bytes([*low, *high]), 0, &[]),
-        [low] => (u16::from(*low), 0, &[]),
-        [] => (0, 0, &[]),
-    }
+    let byte = |place: usize| input.get(place).copied().unwrap_or(0);
+    let recording = input.get(5..).unwrap_or(&[]);
+    (u16::from_le_bytes([byte(0), byte(1)]), byte(4), recording)
 }

@@ -11,7 +11,7 @@ use std::time::Duration;
 use std::{env, fs, thread};
 
 struct Wanted {
-    /// The programs are benchmark programs, which expect a number of rounds in front and print a checksum.
+    /// The programs are benchmark programs, which expect two numbers in front and print a checksum.
     bench: bool,
     one: String,
     other: String,
@@ -33,15 +33,19 @@ fn main() -> io::Result<()> {
     let mut answers_by_number = [0; 9];
     for number in 0..wanted.count {
         let trial = trial_input(wanted.seed, number);
-        let input = whole_input(&wanted, number, &trial);
+        let (&part, recording) = trial.split_first().unwrap_or((&0, &[]));
+        let (answer, _) = replay_from_nothing(part, recording);
+        let input = if wanted.bench {
+            bench_input(number, answer.number == 0, &trial)
+        } else {
+            trial.clone()
+        };
         let one = run(&wanted.one, &input, number)?;
         let other = run(&wanted.other, &input, number)?;
         if one != other || one.exit_code != Some(0) {
             report_difference(&wanted, number, &input, &one, &other)?;
             process::exit(1);
         }
-        let (&part, recording) = trial.split_first().unwrap_or((&0, &[]));
-        let (answer, _) = replay_from_nothing(part, recording);
         answers_by_number[usize::from(answer.number)] += 1;
     }
     print_summary(&answers_by_number);
@@ -64,17 +68,29 @@ fn read_arguments() -> Option<Wanted> {
     })
 }
 
-/// A benchmark program gets few rounds, once none; two of its inputs are too short to hold their number.
-fn whole_input(wanted: &Wanted, number: usize, trial: &[u8]) -> Vec<u8> {
-    if !wanted.bench {
-        return trial.to_vec();
+/// A benchmark program gets few rounds, once none; four of its inputs are too short to hold its two numbers.
+fn bench_input(number: usize, accepted: bool, trial: &[u8]) -> Vec<u8> {
+    let rounds = if number == 4 { 0 } else { 1 + number % 3 };
+    let size = if accepted { packet_size(number) } else { 0 };
+    let mut input = Vec::new();
+    input.extend((rounds as u16).to_le_bytes());
+    input.extend((size as u16).to_le_bytes());
+    input.extend_from_slice(trial);
+    if number < 4 {
+        input.truncate(number);
     }
-    match number {
-        0 => Vec::new(),
-        1 => vec![3],
-        2 => [&[0, 0], trial].concat(),
-        _ => [&[1 + (number % 3) as u8, 0], trial].concat(),
+    input
+}
+
+/// Every other recording is asked for whole, which is the size 0. Of the rest only accepted ones are asked for in packets,
+/// since what was known before a bad record is kept in packets, and not by a replay.
+fn packet_size(number: usize) -> usize {
+    if number % 2 == 0 {
+        return 0;
     }
+    let mut random = Random::new(number as u64);
+    let most = random.pick(&[4, 40, 1_500, 65_535]);
+    1 + random.below(most)
 }
 
 /// A program may know its answer before it has read all, so a pipe that it closed is no fault.

@@ -1,19 +1,18 @@
--- `summed` meets its contract: after i turns there were i rounds, one after the other, and the rounds left fall.
--- Assumes nothing.
+-- `rounds::summed` meets its contract: after i turns there were i rounds, one after the other, and the rounds left fall. Assumes nothing.
 use Prim.Native.Nat.{_≤_, _-_}
 use native.Mathlib.Numerals.{add-one}
 use native.Mathlib.Omega.{arith}
 use mathlib.Core.Path.{_≡_}
 use Rattle.bench.specs.Rounds.{Rounds, none, more}
 use borrow.Author.Needs.{needs}
-use Rattle.bench.proofs.summed.Statement.{statement}
-use Rattle.bench.proofs.summed.Tie as tie
+use Rattle.bench.proofs.rounds.summed.Statement.{statement}
+use Rattle.bench.proofs.rounds.summed.Tie as tie
 
 abbrev Inv-loop : tie.InvT-loop
-Inv-loop rounds part recording sum₀ i₀ sum i = (i ≤ rounds) × Rounds part recording i 0 (sum .0)
+Inv-loop rounds size part recording sum₀ i₀ sum i = (i ≤ rounds) × Rounds size part recording i 0 (sum .0)
 
 abbrev μ-loop : tie.MeasureT-loop
-μ-loop rounds part recording sum₀ i₀ sum i = rounds - i
+μ-loop rounds size part recording sum₀ i₀ sum i = rounds - i
 
 loop-holds : tie.Need-loop-holds Inv-loop μ-loop
 loop-holds c = (omega arith, none)
