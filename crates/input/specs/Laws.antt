@@ -5,8 +5,8 @@ use mathlib.Core.List.{List}
 use native.Mathlib.Nat.{le-of-lt}
 use lib.ListN.{length, take}
 use lib.Seq.{length-take-le}
-use Rattle.input.specs.declared.answer.Input.{Input}
-use Rattle.input.specs.declared.answer.Input.the-variants.{Whole}
+use Rattle.read_answer.specs.declared.Input.{Input}
+use Rattle.read_answer.specs.declared.Input.the-variants.{Whole}
 use Rattle.input.specs.Reading.{LeavesRoom, Reads}
 
 pub whole-within : {old new : List ℕ} {r : Input} {n : ℕ} → Reads old r new → r ≡ Whole n → n ≤ length new

@@ -3,10 +3,10 @@ use Prim.Native.Nat.{ℕ, _+_, _<_, _≤_}
 use mathlib.Core.Path.{_≡_}
 use mathlib.Core.List.{List}
 use lib.ListN.{length, take}
-use Rattle.input.specs.declared.answer.Input.{Input}
-use Rattle.input.specs.declared.answer.Input.the-variants.{Whole, Full, Failed}
-use Rattle.input.specs.declared.answer.Next.{Next}
-use Rattle.input.specs.declared.answer.Next.the-variants.{Came, Interrupted, Over}
+use Rattle.read_answer.specs.declared.Input.{Input}
+use Rattle.read_answer.specs.declared.Input.the-variants.{Whole, Full, Failed}
+use Rattle.read_answer.specs.declared.Next.{Next}
+use Rattle.read_answer.specs.declared.Next.the-variants.{Came, Interrupted, Over}
 
 -- One call ends the input with the bytes that came before it, or with a failure.
 abbrev pub EndsInput : ℕ → Input → Type 0

@@ -1,8 +1,8 @@
 // Reading to the end of the input, or until the buffer is full.
-use crate::answer::Input;
-use crate::answer::Next;
-use crate::answer::told;
 use libc::STDIN_FILENO;
+use read_answer::Input;
+use read_answer::Next;
+use read_answer::told;
 ghost use Prim.Native.Nat.{_<_};
 ghost use lib.ListN.{length};
 ghost use Rattle.input.specs.Reading.{Goes, Reads};

@@ -6,10 +6,10 @@ use mathlib.Core.List.{List}
 use native.Mathlib.Omega.{arith}
 use lib.ListN.{length}
 use borrow.Author.Needs.{needs}
-use Rattle.input.specs.declared.answer.Input.{Input}
-use Rattle.input.specs.declared.answer.Input.the-variants.{Whole, Full, Failed}
-use Rattle.input.specs.declared.answer.Next.{Next}
-use Rattle.input.specs.declared.answer.Next.the-variants.{Came, Over}
+use Rattle.read_answer.specs.declared.Input.{Input}
+use Rattle.read_answer.specs.declared.Input.the-variants.{Whole, Full, Failed}
+use Rattle.read_answer.specs.declared.Next.{Next}
+use Rattle.read_answer.specs.declared.Next.the-variants.{Came, Over}
 use Rattle.input.specs.Reading.{EndsInput, LeavesRoom, HasRoom, Goes, Reads}
 use Rattle.input.proofs.reading.read_input.Statement.{statement}
 use Rattle.input.proofs.reading.read_input.Tie as tie

@@ -12,7 +12,7 @@ use mir.Syntax.{w64}
 use mir.Val.{toZ, ofZ}
 use mir.ValLaws.{toZ-ofZ}
 use Rattle.libc.specs.Io.{Moved}
-use Rattle.input.specs.Answer.{toldBy, failing, interrupted?}
+use Rattle.read_answer.specs.Answer.{toldBy, failing, interrupted?}
 use Rattle.input.specs.Reading.{HasRoom}
 use Rattle.input.proofs.reading.read_on.Statement.{statement}
 use Rattle.input.proofs.reading.read_on.Tie as tie

@@ -1,7 +1,7 @@
 // What a call of read answers, and what that tells of the input.
 use libc::EINTR;
 ghost use mathlib.Core.Path.{_≡_};
-ghost use Rattle.input.specs.Answer.{toldBy};
+ghost use Rattle.read_answer.specs.Answer.{toldBy};
 
 pub enum Input {
     // The input is read to its end: so many bytes stand at the front of the buffer.

@@ -4,9 +4,9 @@ use Prim.Native.Nat.{ℕ, zero, suc}
 use mathlib.Core.Bool.{Bool, true, false}
 use lib.Dec.{eqb}
 use lib.IntN.{ℤ, pos, negsuc}
-use Rattle.input.specs.declared.answer.Input.the-variants.{Whole, Failed}
-use Rattle.input.specs.declared.answer.Next.{Next}
-use Rattle.input.specs.declared.answer.Next.the-variants.{Came, Interrupted, Over}
+use Rattle.read_answer.specs.declared.Input.the-variants.{Whole, Failed}
+use Rattle.read_answer.specs.declared.Next.{Next}
+use Rattle.read_answer.specs.declared.Next.the-variants.{Came, Interrupted, Over}
 
 -- EINTR is 4.
 abbrev pub interrupted? : ℤ → Bool

@@ -12,10 +12,10 @@ use borrow.Author.Tests.{ltb-false, ne-eqb}
 use mir.Syntax.{Width, w32, w64}
 use mir.Val.{SFits, toZ, ofZ}
 use mir.ValLaws.{toZ-ofZ}
-use Rattle.input.specs.declared.answer.Next.the-variants.{Came}
-use Rattle.input.specs.Answer.{toldBy, failing, interrupted?}
-use Rattle.input.proofs.answer.told.Statement.{statement}
-use Rattle.input.proofs.answer.told.Tie as tie
+use Rattle.read_answer.specs.declared.Next.the-variants.{Came}
+use Rattle.read_answer.specs.Answer.{toldBy, failing, interrupted?}
+use Rattle.read_answer.proofs.told.Statement.{statement}
+use Rattle.read_answer.proofs.told.Tie as tie
 
 -- Above 0: so many bytes.
 above : (z error : ℤ) (before : ℕ) → ltZ (pos 0) z ≡ true → T (nonNeg z) × (Came (natAbs z) ≡ toldBy z error before)
