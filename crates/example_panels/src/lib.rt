@@ -1,18 +1,17 @@
-// Panels in the example programs: what is known of one, written in words, and told by words.
+// What the examples on panels share: their lines are read, and what is known of a panel is told by words and written in words.
 mod characters;
 mod codes;
+mod example;
 mod facts;
 mod known;
+mod memory;
 mod segments;
 mod starts;
 mod tell_characters;
 mod tell_segments;
+mod telling;
 mod tells;
 
+pub use example::Example;
 pub use known::show_known;
-pub use starts::known_characters;
-pub use starts::known_segments;
-pub use starts::start_characters;
-pub use starts::start_segments;
-pub use tell_characters::told_characters;
-pub use tell_segments::told_segments;
+pub use telling::told;

@@ -1,12 +1,17 @@
 // What examples start from: a panel in the middle of writing, with a value that shows in every fact.
-use crate::tell_characters::told_characters;
-use crate::tell_segments::told_segments;
-use example_text::Word;
+use panel::Panel;
 use standing::Standing;
 use terms::Address;
 
-// A PT6312 or PT6315 panel of which everything is known.
-pub fn known_segments() -> segment_knowledge::Knowledge {
+// Everything is known, whichever part drives it.
+pub fn all_known() -> Panel {
+    Panel {
+        segment: known_segments(),
+        character: known_characters(),
+    }
+}
+
+fn known_segments() -> segment_knowledge::Knowledge {
     segment_knowledge::Knowledge {
         cells: [0x6E; 36],
         control: segment_knowledge::Control {
@@ -25,8 +30,7 @@ pub fn known_segments() -> segment_knowledge::Knowledge {
     }
 }
 
-// A PT6302 panel of which everything is known.
-pub fn known_characters() -> character_knowledge::Knowledge {
+fn known_characters() -> character_knowledge::Knowledge {
     character_knowledge::Knowledge {
         dcram: [0x6E; 16],
         cgram: [0x6E; 40],
@@ -42,41 +46,5 @@ pub fn known_characters() -> character_knowledge::Knowledge {
             lights: Standing::Known(character_knowledge::ON),
             position: Standing::Known(character_knowledge::DCRAM),
         },
-    }
-}
-
-// What is known of such a panel at the start of a replay: nothing or everything, and then an LED that is out of range.
-pub fn start_segments(known: bool, led: bool) -> segment_knowledge::Knowledge {
-    let k = if known {
-        known_segments()
-    } else {
-        segment_knowledge::nothing_known()
-    };
-    if led {
-        told_segments(k, telling(b'l', 16))
-    } else {
-        k
-    }
-}
-
-// The same for PT6302, and then a port that is out of range.
-pub fn start_characters(known: bool, port: bool) -> character_knowledge::Knowledge {
-    let k = if known {
-        known_characters()
-    } else {
-        character_knowledge::nothing_known()
-    };
-    if port {
-        told_characters(k, telling(b'o', 4))
-    } else {
-        k
-    }
-}
-
-fn telling(name: u8, number: usize) -> Word {
-    Word {
-        name,
-        at: 0,
-        number,
     }
 }

@@ -6,9 +6,8 @@ pub struct Line {
     pub part: u8,
     // Whether the part byte was read.
     begun: bool,
-    // Whether a record ended with the character that was read last, and whether a name did.
+    // Whether a record ended with what was read last.
     pub whole: bool,
-    pub named: bool,
     kind: u8,
     // How many bytes of the body are still to come, and those that came.
     left: u8,
@@ -25,7 +24,6 @@ impl Line {
             part: 0,
             begun: false,
             whole: false,
-            named: false,
             kind: 0,
             left: 0,
             b0: 0,
@@ -35,21 +33,17 @@ impl Line {
         }
     }
 
-    // The line with one more character and the word before it, which counts where it ends.
+    // The line with one more character and the word before it, which counts where it ends and is a byte.
     pub fn with(mut self, word: Word, c: u8) -> Line {
         self.whole = false;
-        self.named = false;
-        if !word.ends(c) {
-            return self;
-        }
-        if word.name == b'0' {
+        if word.ends(c) && word.name == b'0' {
             return self.with_byte(word.byte());
         }
-        self.named = true;
         self
     }
 
-    fn with_byte(mut self, byte: u8) -> Line {
+    // The line with one more byte.
+    pub fn with_byte(mut self, byte: u8) -> Line {
         if !self.begun {
             self.part = byte;
             self.begun = true;

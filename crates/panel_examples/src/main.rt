@@ -1,27 +1,23 @@
-// Runs the examples of the file stdin, a line each, and writes each line back with what is known of the panel at its end and the report of
-// the byte to be sent next. It is compared with the file stdout, whose values are from paper 01.
+// Runs the examples of the file stdin, a line each, and writes each line back with what it comes to. It is compared with the file stdout, whose values
+// are from paper 01, and of packets from paper 02 (M-100).
 //
-// A line is a part byte and events as paper 01 records them, in hex. It starts with everything known: `segments::all_known` for PT6312 and
-// PT6315, `characters::all_known` for PT6302, and both for a byte that names no part. Words between the part byte and the events change that. A
-// word begins with a small letter, ends at a space, and of its small letters only the first counts; its numbers are in hex.
-//     position?    the position is unknown
-//     position=01  the position is known as number 1, in range or not
-//     cell07?      memory and keys have a number: cell 07H is unknown
-//     cell07=09    cell 07H is known to be 09H
-//     cell07!      cell 07H has the code 257, which is neither a byte nor unknown
-//     nothing      nothing is known
-// PT6312 and PT6315 have cell, key, every (all cells), address, invalid (the address), data (mode), fixed (or increment), mode, bright
-// (dimming), on, led, switches, reads (the read count) and position. PT6302 has text (DCRAM), shape (CGRAM, columns 00H to 27H) and mark
-// (ADRAM), dcram, glyph and adram (their addresses), column, out (the port), bright (duty), width (digits), lights and position.
+// A line that is a name, events, recordings or packets, says what the lines behind it are; a line that begins with # is a remark. Every other line begins
+// with a part byte, or is a packet and begins with /. Bytes are in hex, with a space between; words say what is known before, and their numbers are in hex.
+//     ( 03 5A )*FFFE   what stands between ( and ) is repeated until there are FFFEH bytes
+// The longest recordings and packets stand last among theirs, since the interpreter of `rt try` has not steps enough for them.
 //
-// What is written has memory, keys and addresses in hex and other numbers in decimal. Memory stands as runs, 00-06=6E; ?? is unknown and !! the code
-// 257. A refusal is its number and place, and what is known then is as it was.
-mod answers;
-mod panels;
+// What is written has memory, keys, addresses and unfinished bytes in hex, and other numbers in decimal. Memory stands as runs, 00-06=6E; ?? is unknown,
+// and !! the code 257. A refusal is its number and place. What each section reads and writes beside that stands at its module.
+mod events;
+mod in_words;
+mod packeted;
+mod recordings;
 
-use example_text::Line;
+use example_panels::Example;
 use example_text::Word;
 use example_text::character;
+use feed::Feed;
+use feed::opened;
 use input::Input;
 use input::read_input;
 use libc::STDERR_FILENO;
@@ -29,8 +25,9 @@ use libc::STDERR_FILENO;
 // A byte more than is taken shows that the input is longer.
 fn main() {
     let mut buffer = io::large_buffer();
+    let mut memory = [0u8; 65600];
     match read_input(&mut buffer) {
-        Input::Whole(n) => run(&buffer[..n]),
+        Input::Whole(n) => run(&buffer[..n], &mut memory),
         Input::Full => {
             io::write_all(
                 STDERR_FILENO,
@@ -41,23 +38,51 @@ fn main() {
     }
 }
 
-// What is known is a value of its own, beside what was read, so that only what changes it is about it.
-fn run(examples: &[u8]) {
+// What is kept is a value of its own, beside what was read, so that only what changes it is about it.
+fn run(examples: &[u8], memory: &mut [u8]) {
     let mut word = Word::new();
-    let mut line = Line::new();
-    let mut heard = panels::all_known();
+    let mut example = Example::new(0, 0);
+    let mut feed = opened(panel::nothing_known());
     let mut i = 0;
     while i < examples.len() {
         let c = examples[i];
         i += 1;
-        line = line.with(word, c);
-        heard = panels::after(heard, line, word);
+        feed = told(feed, example, word, c);
+        example = example.with(word, c, memory);
+        feed = ended(feed, example, c, memory);
+        example = example.after(c);
         word = word.after(c);
-        if c == b'\n' {
-            panels::show(line.part, heard);
-            line = Line::new();
-            heard = panels::all_known();
-        }
         character(c);
     }
+}
+
+// Where a word tells, what is known is opened anew.
+fn told(feed: Feed, example: Example, word: Word, c: u8) -> Feed {
+    if example.tells(word, c) {
+        opened(example_panels::told(example, feed.panel, word))
+    } else {
+        feed
+    }
+}
+
+// A line is run where it ends.
+fn ended(feed: Feed, example: Example, c: u8, memory: &[u8]) -> Feed {
+    let length = example.length;
+    if c != b'\n' || !example.begun {
+        return feed;
+    }
+    if memory.len() < length {
+        return feed;
+    }
+    comes_to(feed, example, &memory[..length])
+}
+
+fn comes_to(feed: Feed, example: Example, bytes: &[u8]) -> Feed {
+    let section = example.section;
+    match section {
+        b'e' => events::run(example.part, feed.panel, bytes),
+        b'r' => recordings::run(example, feed.panel, bytes),
+        _ => return packeted::run(example, feed, bytes),
+    }
+    feed
 }

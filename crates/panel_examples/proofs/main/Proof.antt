@@ -22,6 +22,9 @@ array-share-prefix-buffer c = whole-within (c .before .before .before .before .r
 slice-aggregate-run : tie.Need-slice-aggregate-run
 slice-aggregate-run c = whole-long (c .before .before .before .before .before .read-input .ensures) (c .before .before .n .given .1)
 
+slice-aggregate-run-2 : tie.Need-slice-aggregate-run-2
+slice-aggregate-run-2 c = search needs
+
 run-requires : tie.Need-run-requires
 run-requires c κs = search needs
 
@@ -62,6 +65,7 @@ main-spec =
     enum-known-n
     array-share-prefix-buffer
     slice-aggregate-run
+    slice-aggregate-run-2
     run-requires
     enum-told
     slice-aggregate-write-all

@@ -1,16 +1,18 @@
--- `run` meets its contract, which says nothing: the loop stays within the examples, and what is left of them falls.
+-- `run` meets its contract, which says nothing: the loop stays within the examples, what is left of them falls, and the lent memory keeps its length.
 -- Assumes nothing.
 use Prim.Native.Nat.{_≤_, _-_}
+use native.Mathlib.Omega.{arith}
+use mathlib.Core.Path.{_≡_}
 use lib.ListN.{length}
 use borrow.Author.Needs.{needs}
 use Rattle.panel_examples.proofs.run.Statement.{statement}
 use Rattle.panel_examples.proofs.run.Tie as tie
 
 abbrev Inv-loop : tie.InvT-loop
-Inv-loop examples word₀ line₀ heard₀ i₀ word line heard i = i ≤ length examples
+Inv-loop examples memory₀ word₀ example₀ feed₀ i₀ memory word example feed i = (i ≤ length examples) × (length memory ≡ length memory₀)
 
 abbrev μ-loop : tie.MeasureT-loop
-μ-loop examples word₀ line₀ heard₀ i₀ word line heard i = length examples - i
+μ-loop examples memory₀ word₀ example₀ feed₀ i₀ memory word example feed i = length examples - i
 
 new-requires : tie.Need-new-requires Inv-loop μ-loop
 new-requires c κs = search needs
@@ -18,8 +20,11 @@ new-requires c κs = search needs
 new-requires-2 : tie.Need-new-requires-2 Inv-loop μ-loop
 new-requires-2 c κs = search needs
 
-all-known-requires : tie.Need-all-known-requires Inv-loop μ-loop
-all-known-requires c κs = search needs
+nothing-known-requires : tie.Need-nothing-known-requires Inv-loop μ-loop
+nothing-known-requires c κs = search needs
+
+opened-requires : tie.Need-opened-requires Inv-loop μ-loop
+opened-requires c κs = search needs
 
 loop-holds : tie.Need-loop-holds Inv-loop μ-loop
 loop-holds c = search needs
@@ -30,23 +35,20 @@ shared-slice-read-c c = search needs
 add-i : tie.Need-add-i Inv-loop μ-loop
 add-i c = search needs
 
+told-requires : tie.Need-told-requires Inv-loop μ-loop
+told-requires c κs = search needs
+
 with-requires : tie.Need-with-requires Inv-loop μ-loop
 with-requires c κs = search needs
+
+ended-requires : tie.Need-ended-requires Inv-loop μ-loop
+ended-requires c κs = search needs
 
 after-requires : tie.Need-after-requires Inv-loop μ-loop
 after-requires c κs = search needs
 
 after-requires-2 : tie.Need-after-requires-2 Inv-loop μ-loop
 after-requires-2 c κs = search needs
-
-show-requires : tie.Need-show-requires Inv-loop μ-loop
-show-requires c κs = search needs
-
-new-requires-3 : tie.Need-new-requires-3 Inv-loop μ-loop
-new-requires-3 c κs = search needs
-
-all-known-requires-2 : tie.Need-all-known-requires-2 Inv-loop μ-loop
-all-known-requires-2 c κs = search needs
 
 character-requires : tie.Need-character-requires Inv-loop μ-loop
 character-requires c κs = search needs
@@ -55,7 +57,13 @@ loop-less : tie.Need-loop-less Inv-loop μ-loop
 loop-less c = search needs
 
 loop-again : tie.Need-loop-again Inv-loop μ-loop
-loop-again c = search needs
+loop-again c =
+    let lent = c .before .before .before .before .before .before in
+    let inside = lent .before .before .before .before .before in
+    (omega (arith, inside .loop-test .taken), omega (arith, lent .memory .given, inside .before .loop .inv))
+
+same-length : tie.Need-same-length Inv-loop μ-loop
+same-length c = search needs
 
 returns : tie.Need-returns Inv-loop μ-loop
 returns c = search needs
@@ -68,17 +76,18 @@ run-spec =
     μ-loop
     new-requires
     new-requires-2
-    all-known-requires
+    nothing-known-requires
+    opened-requires
     loop-holds
     shared-slice-read-c
     add-i
+    told-requires
     with-requires
+    ended-requires
     after-requires
     after-requires-2
-    show-requires
-    new-requires-3
-    all-known-requires-2
     character-requires
     loop-less
     loop-again
+    same-length
     returns)

@@ -1,10 +1,10 @@
--- `packet_examples::feeds::unfinished_of` meets its contract, which says nothing: the first four bytes are no more than four.
+-- `packeted::unfinished_of` meets its contract, which says nothing: the first four bytes are no more than four.
 -- Assumes nothing.
 use native.Mathlib.Omega.{arith}
 use lib.ListN.{length-take}
 use borrow.Author.Needs.{needs}
-use Rattle.packet_examples.proofs.feeds.unfinished_of.Statement.{statement}
-use Rattle.packet_examples.proofs.feeds.unfinished_of.Tie as tie
+use Rattle.panel_examples.proofs.packeted.unfinished_of.Statement.{statement}
+use Rattle.panel_examples.proofs.packeted.unfinished_of.Tie as tie
 
 held-requires : tie.Need-held-requires
 held-requires c κs = search needs

@@ -5,8 +5,8 @@ use mathlib.Core.Path.{_≡_}
 use native.Mathlib.Omega.{arith}
 use lib.ListN.{length, length-set}
 use borrow.Author.Needs.{needs}
-use Rattle.example_recordings.proofs.memory.repeat.Statement.{statement}
-use Rattle.example_recordings.proofs.memory.repeat.Tie as tie
+use Rattle.example_panels.proofs.memory.repeat.Statement.{statement}
+use Rattle.example_panels.proofs.memory.repeat.Tie as tie
 
 abbrev Inv-loop : tie.InvT-loop
 Inv-loop recording₀ mark at end group i₀ recording i =

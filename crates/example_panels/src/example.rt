@@ -1,0 +1,100 @@
+// A line of examples: its part byte, how far its bytes go, which stand in lent memory, and what its words say.
+use crate::memory::put;
+use example_text::Word;
+
+pub struct Example {
+    // The first letter of the section that it stands in: events, recordings or packets.
+    pub section: u8,
+    // The part byte, which holds for the packets behind its line, too.
+    pub part: u8,
+    // Whether the part byte or / was read, whether the line is a packet, and whether a name stands in it.
+    pub begun: bool,
+    pub packet: bool,
+    pub worded: bool,
+    // How many bytes there are so far, and how many there were at the last mark.
+    pub length: usize,
+    mark: usize,
+    // The words that begin with @ and with $.
+    pub start: Word,
+    pub refusal: Word,
+}
+
+impl Example {
+    // A line of which nothing was read, in a section and behind a part byte.
+    pub fn new(section: u8, part: u8) -> Example {
+        Example {
+            section,
+            part,
+            begun: false,
+            packet: false,
+            worded: false,
+            length: 0,
+            mark: 0,
+            start: Word::new(),
+            refusal: Word::new(),
+        }
+    }
+
+    // Whether a word that ends says what is known: a part byte does, and so may each word behind it.
+    pub fn tells(self, word: Word, c: u8) -> bool {
+        if self.packet {
+            return false;
+        }
+        if !word.ends(c) {
+            return false;
+        }
+        self.begun || word.name == b'0'
+    }
+
+    // With one more word, which counts where it ends.
+    pub fn with(mut self, word: Word, c: u8, memory: &mut [u8]) -> Example {
+        if !word.ends(c) {
+            return self;
+        }
+        if !self.begun {
+            return self.begins(word);
+        }
+        let length = put(memory, self.mark, self.length, word);
+        self.length = length;
+        self.told(word)
+    }
+
+    // A remark, which begins with #, is one word and begins nothing.
+    fn begins(mut self, word: Word) -> Example {
+        let name = word.name;
+        match name {
+            b'0' => {
+                self.part = word.byte();
+                self.begun = true;
+            }
+            b'/' => {
+                self.packet = true;
+                self.begun = true;
+            }
+            b'a'..=b'z' => self.section = name,
+            _ => {}
+        }
+        self
+    }
+
+    fn told(mut self, word: Word) -> Example {
+        let name = word.name;
+        match name {
+            b'(' => self.mark = self.length,
+            b'@' => self.start = word,
+            b'$' => self.refusal = word,
+            b'a'..=b'z' => self.worded = true,
+            _ => {}
+        }
+        self
+    }
+
+    // At a line's end, the line behind it.
+    pub fn after(self, c: u8) -> Example {
+        if c == b'\n' {
+            Example::new(self.section, self.part)
+        } else {
+            self
+        }
+    }
+}
