@@ -89,6 +89,21 @@ impl Example {
         self
     }
 
+    // Whether a line ends that has begun: then it is run.
+    pub fn ends(self, c: u8) -> bool {
+        c == b'\n' && self.begun
+    }
+
+    // Its bytes, at the front of the memory that was lent for them.
+    pub fn bytes(self, memory: &[u8]) -> &[u8] {
+        let length = self.length;
+        if length <= memory.len() {
+            &memory[..length]
+        } else {
+            memory
+        }
+    }
+
     // At a line's end, the line behind it.
     pub fn after(self, c: u8) -> Example {
         if c == b'\n' {

@@ -1,4 +1,5 @@
 // What a word says of PT6302.
+use crate::tells::code_told;
 use crate::tells::tells;
 use character_knowledge::Control;
 use character_knowledge::Knowledge;
@@ -12,12 +13,12 @@ pub fn told_characters(k: Knowledge, word: Word) -> Knowledge {
     if word.name == b'n' {
         return nothing_known();
     }
-    let text = k.dcram;
-    let shapes = k.cgram;
-    let marks = k.adram;
-    let dcram = sixteen_told(text, word.name == b't', word);
-    let cgram = forty_told(shapes, word.name == b's', word);
-    let adram = sixteen_told(marks, word.name == b'm', word);
+    let mut dcram = k.dcram;
+    let mut cgram = k.cgram;
+    let mut adram = k.adram;
+    code_told(&mut dcram, b't', word);
+    code_told(&mut cgram, b's', word);
+    code_told(&mut adram, b'm', word);
     Knowledge {
         dcram,
         cgram,
@@ -59,22 +60,4 @@ fn address_told(word: Word, name: u8, before: Pointing) -> Pointing {
     } else {
         Pointing::Unknown
     }
-}
-
-fn sixteen_told(codes: [u16; 16], is: bool, word: Word) -> [u16; 16] {
-    let mut new = codes;
-    let at = word.at;
-    if is && at < 16 {
-        new[at] = word.code();
-    }
-    new
-}
-
-fn forty_told(codes: [u16; 40], is: bool, word: Word) -> [u16; 40] {
-    let mut new = codes;
-    let at = word.at;
-    if is && at < 40 {
-        new[at] = word.code();
-    }
-    new
 }

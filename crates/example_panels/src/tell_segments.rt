@@ -1,4 +1,5 @@
 // What a word says of PT6312 or PT6315.
+use crate::tells::code_told;
 use crate::tells::tells;
 use example_text::Word;
 use segment_knowledge::Control;
@@ -13,21 +14,19 @@ pub fn told_segments(k: Knowledge, word: Word) -> Knowledge {
         return nothing_known();
     }
     let old = k.cells;
-    let cells = cells_told(old, word.name, word.at, word.code());
+    let cells = cells_told(old, word);
     Knowledge {
         cells,
         control: control_told(k.control, word),
     }
 }
 
-fn cells_told(cells: [u16; 36], name: u8, at: usize, code: u16) -> [u16; 36] {
-    if name == b'e' {
-        return [code; 36];
+fn cells_told(cells: [u16; 36], word: Word) -> [u16; 36] {
+    if word.name == b'e' {
+        return [word.code(); 36];
     }
     let mut new = cells;
-    if name == b'c' && at < 36 {
-        new[at] = code;
-    }
+    code_told(&mut new, b'c', word);
     new
 }
 
@@ -39,11 +38,11 @@ fn control_told(c: Control, word: Word) -> Control {
     let dimming = c.dimming;
     let display = c.display;
     let led = c.led;
-    let keys = c.keys;
+    let mut keys = c.keys;
+    code_told(&mut keys, b'k', word);
     let switches = c.switches;
     let count = c.count;
     let position = c.position;
-    let new_keys = keys_told(keys, word.name, word.at, word.code());
     Control {
         address: address_told(word, address),
         data: tells(word, b'd', data),
@@ -52,7 +51,7 @@ fn control_told(c: Control, word: Word) -> Control {
         dimming: tells(word, b'b', dimming),
         display: tells(word, b'o', display),
         led: tells(word, b'l', led),
-        keys: new_keys,
+        keys,
         switches: tells(word, b's', switches),
         count: tells(word, b'r', count),
         position: tells(word, b'p', position),
@@ -72,12 +71,4 @@ fn address_told(word: Word, before: Pointing) -> Pointing {
     } else {
         Pointing::Unknown
     }
-}
-
-fn keys_told(keys: [u16; 4], name: u8, at: usize, code: u16) -> [u16; 4] {
-    let mut new = keys;
-    if name == b'k' && at < 4 {
-        new[at] = code;
-    }
-    new
 }

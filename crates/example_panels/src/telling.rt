@@ -9,19 +9,16 @@ use panel::nothing_known;
 
 // What is known after a word that tells. The part byte begins a line: a recording starts from knowing nothing, and all else with everything known.
 pub fn told(example: Example, panel: Panel, word: Word) -> Panel {
-    let replayed = example.section == b'r';
+    if example.section == b'r' {
+        if example.begun {
+            return starts(panel, word.name);
+        }
+        return nothing_known();
+    }
     if example.begun {
-        if replayed {
-            starts(panel, word.name)
-        } else {
-            told_of(example.part, panel, word)
-        }
+        told_of(example.part, panel, word)
     } else {
-        if replayed {
-            nothing_known()
-        } else {
-            all_known()
-        }
+        all_known()
     }
 }
 
@@ -29,8 +26,8 @@ pub fn told(example: Example, panel: Panel, word: Word) -> Panel {
 fn starts(panel: Panel, name: u8) -> Panel {
     match name {
         b'k' => all_known(),
-        b'l' => told_of(0x12, panel, saying(b'l', 16)),
-        b'p' => told_of(0x02, panel, saying(b'o', 4)),
+        b'l' => segments_told(panel, saying(b'l', 16)),
+        b'p' => characters_told(panel, saying(b'o', 4)),
         _ => panel,
     }
 }
@@ -46,10 +43,18 @@ fn saying(name: u8, number: usize) -> Word {
 // A word speaks of PT6312 and PT6315 where the byte names no part.
 fn told_of(part: u8, panel: Panel, word: Word) -> Panel {
     if part == 0x02 {
-        let character = told_characters(panel.character, word);
-        Panel { character, ..panel }
+        characters_told(panel, word)
     } else {
-        let segment = told_segments(panel.segment, word);
-        Panel { segment, ..panel }
+        segments_told(panel, word)
     }
+}
+
+fn characters_told(panel: Panel, word: Word) -> Panel {
+    let character = told_characters(panel.character, word);
+    Panel { character, ..panel }
+}
+
+fn segments_told(panel: Panel, word: Word) -> Panel {
+    let segment = told_segments(panel.segment, word);
+    Panel { segment, ..panel }
 }

@@ -1,4 +1,4 @@
-// What a word says of a single fact.
+// What a word says of a single fact, and of a row.
 use example_text::Word;
 use standing::Standing;
 
@@ -11,5 +11,16 @@ pub fn tells(word: Word, name: u8, before: Standing) -> Standing {
         Standing::Known(word.byte())
     } else {
         Standing::Unknown
+    }
+}
+
+// A row of codes after the word, which changes the one with its number where the row has its name.
+pub fn code_told(codes: &mut [u16], name: u8, word: Word) {
+    let at = word.at;
+    if word.name != name {
+        return;
+    }
+    if at < codes.len() {
+        codes[at] = word.code();
     }
 }

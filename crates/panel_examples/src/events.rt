@@ -13,7 +13,7 @@
 // (ADRAM), dcram, glyph and adram (their addresses), column, out (the port), bright (duty), width (digits), lights and position.
 //
 // What is written is the answer to the last event, where it is refused, what is known then, and the report.
-use crate::in_words::refused;
+use crate::in_words;
 use example_panels::show_known;
 use example_text::Line;
 use example_text::hex;
@@ -23,6 +23,7 @@ use hearing::Heard;
 use panel::Panel;
 use reporting::Report;
 use segment_sent::Sending;
+use terms::Place;
 
 pub fn run(part: u8, panel: Panel, records: &[u8]) {
     let heard = heard(part, panel, records);
@@ -59,29 +60,39 @@ fn after(heard: Heard, line: Line) -> Heard {
 fn show(answer: Answer) {
     match answer {
         Answer::Done => {}
-        Answer::NoPart(place) => refused(b"\n    ", 1, place),
-        Answer::OutOfRange(place) => refused(b"\n    ", 2, place),
-        Answer::Foreign(place) => refused(b"\n    ", 6, place),
-        Answer::Forbidden(place) => refused(b"\n    ", 8, place),
+        Answer::NoPart(place) => refused(1, place),
+        Answer::OutOfRange(place) => refused(2, place),
+        Answer::Foreign(place) => refused(6, place),
+        Answer::Forbidden(place) => refused(8, place),
     }
+}
+
+fn refused(n: usize, place: Place) {
+    in_words::refused(b"\n    ", n, place);
 }
 
 fn tell(report: Report) {
     text(b"\n    next byte ");
     match report {
         Report::Is(sending) => sends(sending),
-        Report::NoPart(place) => refused(b"unknown, ", 1, place),
-        Report::OutOfRange(place) => refused(b"unknown, ", 2, place),
+        Report::NoPart(place) => unknown(1, place),
+        Report::OutOfRange(place) => unknown(2, place),
     }
+}
+
+fn unknown(n: usize, place: Place) {
+    in_words::refused(b"unknown, ", n, place);
 }
 
 fn sends(sending: Sending) {
     match sending {
-        Sending::Byte(byte) => {
-            text(b"sends ");
-            hex(byte);
-        }
+        Sending::Byte(byte) => sends_byte(byte),
         Sending::NotDriven => text(b"not driven"),
         Sending::Unknown => text(b"unknown"),
     }
+}
+
+fn sends_byte(byte: u8) {
+    text(b"sends ");
+    hex(byte);
 }

@@ -67,14 +67,11 @@ fn told(feed: Feed, example: Example, word: Word, c: u8) -> Feed {
 
 // A line is run where it ends.
 fn ended(feed: Feed, example: Example, c: u8, memory: &[u8]) -> Feed {
-    let length = example.length;
-    if c != b'\n' || !example.begun {
-        return feed;
+    if example.ends(c) {
+        comes_to(feed, example, example.bytes(memory))
+    } else {
+        feed
     }
-    if memory.len() < length {
-        return feed;
-    }
-    comes_to(feed, example, &memory[..length])
 }
 
 fn comes_to(feed: Feed, example: Example, bytes: &[u8]) -> Feed {

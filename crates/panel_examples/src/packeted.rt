@@ -27,14 +27,17 @@ use panel::Panel;
 use terms::Place;
 
 pub fn run(example: Example, feed: Feed, bytes: &[u8]) -> Feed {
-    let after = if example.packet {
+    let after = after(example, feed, bytes);
+    keeps(example.part, after);
+    after
+}
+
+fn after(example: Example, feed: Feed, bytes: &[u8]) -> Feed {
+    if example.packet {
         takes(example.part, feed, bytes)
     } else {
         begins(example, feed.panel, bytes)
-    };
-    keeps(example.part, after);
-    answered(b"\n    closing ", closed(example.part, after));
-    after
+    }
 }
 
 fn takes(part: u8, feed: Feed, packet: &[u8]) -> Feed {
@@ -91,6 +94,7 @@ fn keeps(part: u8, feed: Feed) {
     number(b", total ", feed.total as usize);
     let kept = feed.kept;
     stands(kept);
+    answered(b"\n    closing ", closed(part, feed));
 }
 
 fn shows(unfinished: Unfinished) {
@@ -99,9 +103,13 @@ fn shows(unfinished: Unfinished) {
     if count == 0 {
         text(b" nothing");
     } else {
-        let row = joined(unfinished, b"");
-        bytes(&row, count);
+        row(unfinished, count);
     }
+}
+
+fn row(unfinished: Unfinished, count: usize) {
+    let row = joined(unfinished, b"");
+    bytes(&row, count);
 }
 
 fn stands(kept: Kept) {
