@@ -85,12 +85,13 @@ fn bench_input(number: usize, accepted: bool, trial: &[u8]) -> Vec<u8> {
 /// Every other recording is asked for whole, which is the size 0. Of the rest only accepted ones are asked for in packets,
 /// since what was known before a bad record is kept in packets, and not by a replay.
 fn packet_size(number: usize) -> usize {
-    if number % 2 == 0 {
-        return 0;
+    if number % 2 == 1 {
+        let mut random = Random::new(number as u64);
+        let most = random.pick(&[4, 40, 1_500, 65_535]);
+        1 + random.below(most)
+    } else {
+        0
     }
-    let mut random = Random::new(number as u64);
-    let most = random.pick(&[4, 40, 1_500, 65_535]);
-    1 + random.below(most)
 }
 
 /// A program may know its answer before it has read all, so a pipe that it closed is no fault.
