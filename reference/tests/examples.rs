@@ -50,18 +50,31 @@ fn p1_a_byte_behind_an_address_is_known() {
 #[test]
 fn p2_and_p3_the_last_cell_of_pt6312() {
     let panel: Pt6312 = after_power(&["D5 11 22"]);
-    assert_eq!(known_cells(panel.cells.iter()), [(0x15, 0x11)]);
-    assert_eq!(panel.address, Some(Address::Invalid));
+    assert_eq!(
+        known_cells(panel.cells.iter()),
+        [(0x00, 0x22), (0x15, 0x11)]
+    );
+    assert_eq!(panel.address, Some(Address::Cell(1)));
     let panel: Pt6312 = after_power(&["D6 33"]);
     assert_eq!(known_cells(panel.cells.iter()), []);
+    assert_eq!(panel.address, Some(Address::Invalid));
 }
 
 #[test]
 fn p4_and_p5_the_last_cell_of_pt6315() {
     let panel: Pt6315 = after_power(&["E3 7F"]);
     assert_eq!(known_cells(panel.cells.iter()), [(0x23, 0x7F)]);
+    assert_eq!(panel.address, Some(Address::Cell(0)));
     let panel: Pt6315 = after_power(&["E4 7F"]);
     assert_eq!(known_cells(panel.cells.iter()), []);
+    assert_eq!(panel.address, Some(Address::Invalid));
+}
+
+#[test]
+fn m101_a_fixed_address_stays_at_the_last_cell() {
+    let panel: Pt6315 = after_power(&["44", "E3 7F 80"]);
+    assert_eq!(known_cells(panel.cells.iter()), [(0x23, 0x80)]);
+    assert_eq!(panel.address, Some(Address::Cell(0x23)));
 }
 
 #[test]

@@ -7,7 +7,7 @@ use Rattle.rules.specs.Choice.{whether}
 use Rattle.terms.specs.declared.Event.{Event}
 use Rattle.terms.specs.Event.{strobe}
 use Rattle.segment.specs.declared.chip.Sizes.{Sizes}
-use Rattle.segment.specs.declared.chip.Pointer.the-variants.{Invalid}
+use Rattle.segment.specs.declared.chip.Pointer.the-variants.{At}
 use Rattle.segment.specs.declared.chip.Data.the-variants.{WriteLed}
 use Rattle.segment.specs.declared.chip.Stepping.the-variants.{Increment}
 use Rattle.segment.specs.declared.chip.Position.the-variants.{Idle}
@@ -37,11 +37,11 @@ fiveStrobes m cells lamps c =
 abbrev pub painting : Sizes → SegmentPicture → List Event
 painting s p = fiveStrobes (p .mode) (take (s .cells) (p .cells)) (p .led) (control p)
 
--- The chip that was c, painted: memory and settings are the picture's. Behind the last cell the address is invalid,
--- the data setting is that of the LED strobe, the transfer is over, and keys and switches are as they were.
+-- The chip that was c, painted: memory and settings are the picture's. Behind the last cell the address has gone
+-- round to 00H, the data setting is that of the LED strobe, the transfer is over, and keys and switches are as they were.
 abbrev pub painted : Sizes → SegmentPicture → (Fact → ℕ) → Fact → ℕ
 painted s p c (cell i) = whether (ltb i (s .cells)) (getD (p .cells) i 0) (c (cell i))
-painted s p c address = pointer Invalid
+painted s p c address = pointer (At (record { 0 = 0 }))
 painted s p c dataMode = data-mode WriteLed
 painted s p c stepping = steps Increment
 painted s p c mode = p .mode

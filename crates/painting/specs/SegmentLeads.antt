@@ -23,7 +23,7 @@ use Rattle.terms.specs.Event.{strobe}
 use Rattle.segment.specs.declared.chip.Family.{Family}
 use Rattle.segment.specs.declared.chip.Family.the-variants.{Pt6312, Pt6315}
 use Rattle.segment.specs.declared.chip.Sizes.{Sizes}
-use Rattle.segment.specs.declared.chip.Pointer.the-variants.{At, Invalid}
+use Rattle.segment.specs.declared.chip.Pointer.the-variants.{At}
 use Rattle.segment.specs.declared.chip.Data.the-variants.{WriteDisplay, WriteLed}
 use Rattle.segment.specs.declared.chip.Stepping.the-variants.{Increment}
 use Rattle.segment.specs.declared.chip.Display.{Display}
@@ -150,9 +150,9 @@ walked readCount = false
 walked position = false
 
 module _ (s : Sizes) where
-  -- The address of cell i, or invalid behind the last.
+  -- The address of cell i, or of cell 0 behind the last.
   abbrev to-cell : ℕ → ℕ
-  to-cell i = pointer (whether (ltb i (s .cells)) (At (record { 0 = i })) Invalid)
+  to-cell i = pointer (At (record { 0 = whether (ltb i (s .cells)) i 0 }))
 
   abbrev count-to : ℕ → Chip → Chip
   count-to i c = put′ address (to-cell i) c
@@ -284,7 +284,7 @@ module _ (s : Sizes) (ok : Paintable s) (p : SegmentPicture) (fits : InRanges s 
       row-ends cell _ (λ b. b) _ bytes _ w (s .cells) (getD (p .cells) i 0) (c (cell i)) i all-cells refl
       (getD-take (s .cells) (p .cells) i 0) (ltb i (s .cells)) refl
 
-  address-ends : pointer Invalid ≡ w .chip address
+  address-ends : pointer (At (record { 0 = 0 })) ≡ w .chip address
   unfolding bytes
   address-ends =
       let n : 0 + length bytes ≡ s .cells = omega (arith, all-cells) in

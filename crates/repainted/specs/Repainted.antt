@@ -8,7 +8,7 @@ use Rattle.terms.specs.declared.Part.{Part}
 use Rattle.terms.specs.declared.Part.the-variants.{Pt6302, Pt6312, Pt6315}
 use Rattle.segment.specs.declared.chip.Family.the-variants as OfFamily
 use Rattle.segment.specs.declared.chip.Sizes.{Sizes}
-use Rattle.segment.specs.declared.chip.Pointer.the-variants.{Invalid}
+use Rattle.segment.specs.declared.chip.Pointer.the-variants.{At}
 use Rattle.segment.specs.declared.chip.Data.the-variants.{WriteLed}
 use Rattle.segment.specs.declared.chip.Stepping.the-variants.{Increment}
 use Rattle.segment.specs.declared.chip.Position.the-variants as SegmentPosition
@@ -27,7 +27,7 @@ use Rattle.painting.specs.declared.CharacterPicture.{CharacterPicture}
 -- as they were, and so is what stands behind the last cell.
 abbrev pub segmentRepainted : Sizes → SegmentPicture → (Segment.Fact → Standing) → Segment.Fact → Standing
 segmentRepainted s p k (Segment.cell i) = whether (ltb i (s .cells)) (known (getD (p .cells) i 0)) (k (Segment.cell i))
-segmentRepainted s p k Segment.address = known (pointer Invalid)
+segmentRepainted s p k Segment.address = known (pointer (At (record { 0 = 0 })))
 segmentRepainted s p k Segment.dataMode = known (data-mode WriteLed)
 segmentRepainted s p k Segment.stepping = known (steps Increment)
 segmentRepainted s p k Segment.mode = known (p .mode)

@@ -31,7 +31,6 @@ use Rattle.segment.specs.declared.chip.Family.{Family}
 use Rattle.segment.specs.declared.chip.Sizes.{Sizes}
 use Rattle.segment.specs.declared.chip.Display.{Display}
 use Rattle.segment.specs.declared.chip.Display.the-variants.{Off, On}
-use Rattle.segment.specs.declared.chip.Pointer.the-variants.{Invalid}
 use Rattle.segment.specs.declared.chip.Data.the-variants.{WriteLed}
 use Rattle.segment.specs.declared.chip.Stepping.the-variants.{Increment}
 use Rattle.segment.specs.declared.chip.Position.{Position}

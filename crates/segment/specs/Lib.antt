@@ -4,6 +4,7 @@ pub mod Value
 pub mod View
 pub mod Command
 pub mod Move
+pub mod Ring
 pub mod Sent
 pub mod Laws
 pub mod Range

@@ -9,7 +9,7 @@ use Rattle.terms.specs.declared.Event.the-variants.{Power, Falls, ByteIn, Rises
 use Rattle.segment.specs.declared.command.Command.{Command}
 use Rattle.segment.specs.declared.command.Command.the-variants.{Mode, Test, Setting, AnySetting, Control, Start}
 use Rattle.segment.specs.declared.chip.Pointer.{Pointer}
-use Rattle.segment.specs.declared.chip.Pointer.the-variants.{At, Invalid}
+use Rattle.segment.specs.declared.chip.Pointer.the-variants.{At}
 use Rattle.segment.specs.declared.chip.Data.the-variants.{WriteDisplay}
 use Rattle.segment.specs.declared.chip.Stepping.the-variants.{Increment}
 use Rattle.segment.specs.declared.chip.Display.the-variants.{Off}
@@ -72,9 +72,9 @@ commanded (AnySetting i) = gives (change same? dataMode free (setting (steps i))
 commanded (Control d o) = gives (sets dimming d (sets display (shows o) (then Ignoring)))
 commanded (Start a) = gives (sets address (pointer a) (then Open))
 
--- The address behind cell i; from the last cell it becomes invalid (H).
+-- The address behind cell i: from the last cell it goes round to 00H (M-101).
 abbrev pub after : Sizes → ℕ → Pointer
-after s i = whether (ltb (i + 1) (s .cells)) (At (record { 0 = i + 1 })) Invalid
+after s i = At (record { 0 = whether (ltb (i + 1) (s .cells)) (i + 1) 0 })
 
 -- The byte is stored at cell i, and the address steps on if incrementing (001).
 abbrev pub storedAt : Sizes → ℕ → ℕ → ℕ → Rule Fact Fact

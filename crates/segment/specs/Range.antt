@@ -135,9 +135,9 @@ module _ (s : Sizes) (p : Proper s) where
 
   after-fits : (i : ℕ) → pointer (after s i) < suc (s .cells)
   after-fits i =
-      whether-all (λ (q : Pointer). pointer q < suc (s .cells)) (ltb (i + 1) (s .cells)) _ _
+      whether-all (λ (n : ℕ). suc n < suc (s .cells)) (ltb (i + 1) (s .cells)) _ _
       (λ t. omega (arith, ltb-true (i + 1) (s .cells) t))
-      (λ _. omega arith)
+      (λ _. omega (arith, p .some))
 
   byte : (t : Bool) (b : ℕ) → b < 256 → b < whether t 256 lacking
   byte t b h = below t 256 b (omega arith) h
@@ -202,5 +202,5 @@ some false = omega arith
 -- No fact has fewer than two values.
 pub two : (q : Family) (f : Fact) → 2 ≤ range (sizes q) f
 unfolding sizes
-two Pt6312 = every _ (λ i. some (ltb i 22)) (omega arith) (omega arith) (omega arith) (omega arith) (omega arith) (omega arith) (omega arith) (λ i. some (ltb i 3)) (omega arith) (omega arith) (omega arith)
-two Pt6315 = every _ (λ i. some (ltb i 36)) (omega arith) (omega arith) (omega arith) (omega arith) (omega arith) (omega arith) (omega arith) (λ i. some (ltb i 4)) (omega arith) (omega arith) (omega arith)
+two Pt6312 = every _ (λ i. some (ltb i (sizes Pt6312 .cells))) (omega arith) (omega arith) (omega arith) (omega arith) (omega arith) (omega arith) (omega arith) (λ i. some (ltb i 3)) (omega arith) (omega arith) (omega arith)
+two Pt6315 = every _ (λ i. some (ltb i (sizes Pt6315 .cells))) (omega arith) (omega arith) (omega arith) (omega arith) (omega arith) (omega arith) (omega arith) (λ i. some (ltb i 4)) (omega arith) (omega arith) (omega arith)

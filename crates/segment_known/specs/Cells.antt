@@ -29,7 +29,7 @@ use Rattle.segment_steps.specs.Step.{sview, Steps}
 use Rattle.standing.specs.View.{coded}
 use Rattle.segment_knowledge.specs.View.{points, cview}
 use Rattle.standing.specs.Codes.{coded-set}
-use Rattle.segment_known.specs.Ways.{cells-room}
+use Rattle.segment.specs.Range.{proper}
 use Rattle.segment_known.specs.Stored.{tag, ways, plain-stay, beyond-stay, cell-common, address-lost}
 
 -- The fourth key byte, which only some parts have.
@@ -43,14 +43,14 @@ fourth-set v false l b j small h e = go (same? (key j) (key 3))
     go (no n) = e j
 
 -- The whole of a byte stored at an unknown address.
-pub somewhere : (s : Sizes) (c : Control) (b : ℕ) → 1 < s .cells → points (c .address) ≡ Of.unknown → (cells : ℕ → Of.Standing)
+pub somewhere : (s : Sizes) (c : Control) (b : ℕ) → 0 < s .cells → points (c .address) ≡ Of.unknown → (cells : ℕ → Of.Standing)
     → Ways.Knows (cview cells) (sview cells) same? (range s) (look address (stored s b)) c (record { control = c; change = Meet (record { 0 = 0 }) 1 (s .cells) b })
 unfolding tag
-somewhere s c b room u cells f =
+somewhere s c b some u cells f =
     look-unknown same? (range s) address (stored s b) (cview cells c) f _ u
     (every (λ (f : Fact). sview cells r f ≡ common (suc (s .cells)) (ways s b (cview cells c) f))
     at
-    (u ∙ address-lost s b (cview cells c) room)
+    (u ∙ address-lost s b (cview cells c) some)
     (plain dataMode (omega arith)) (plain stepping (omega arith)) (plain mode (omega arith)) (plain dimming (omega arith)) (plain display (omega arith)) (plain led (omega arith))
     (λ i. plain (key i) (omega arith)) (plain switches (omega arith)) (plain readCount (omega arith)) (plain position (omega arith)) f)
   where
@@ -71,7 +71,7 @@ somewhere s c b room u cells f =
 
 pub somewhere-steps : (p : Family) (c : Control) (b : ℕ) → points (c .address) ≡ Of.unknown
     → Steps (sizes p) (look address (stored (sizes p) b)) c (record { control = c; change = Meet (record { 0 = 0 }) 1 (sizes p .cells) b })
-somewhere-steps p c b u = record { knows = λ cells. somewhere (sizes p) c b (cells-room p) u cells; inside = (omega arith, λ j h. omega (arith, room p .0)) }
+somewhere-steps p c b u = record { knows = λ cells. somewhere (sizes p) c b (proper p .some) u cells; inside = (omega arith, λ j h. omega (arith, room p .0)) }
 
 -- The key bytes after they are latched.
 pub keys-coded : (s : Sizes) (cells : ℕ → Of.Standing) (c : Control) (k0 k1 k2 k3 : ℕ) (rest new : List ℕ) (i : ℕ) → k0 < 256 → k1 < 256 → k2 < 256 → k3 < 256

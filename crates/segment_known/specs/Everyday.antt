@@ -1,4 +1,4 @@
--- A data byte that goes to a known cell with another behind it: everything that its rule looks at is known.
+-- A data byte that goes to a known cell: everything that its rule looks at is known.
 use Prim.Native.Nat.{ℕ, suc, _+_, _<_}
 use native.Mathlib.Omega.{arith}
 use mathlib.Core.Path.{_≡_, refl}
@@ -15,13 +15,13 @@ use Rattle.segment.specs.declared.chip.Family.{Family}
 use Rattle.segment.specs.declared.chip.Position.the-variants.{First, Open}
 use Rattle.segment.specs.declared.chip.Data.the-variants.{WriteDisplay}
 use Rattle.segment.specs.declared.chip.Stepping.the-variants.{Increment}
-use Rattle.segment.specs.Value.{at-position, data-mode, steps}
+use Rattle.segment.specs.Value.{pointer, at-position, data-mode, steps}
 use Rattle.segment.specs.Family.{sizes}
 use Rattle.segment.specs.Fact.{same?, cell, address, dataMode, stepping, position}
 use Rattle.segment.specs.Laws.{every, room, cells-apart}
-use Rattle.segment.specs.Move.{storedAt, stored, written, byteIn, move}
+use Rattle.segment.specs.Move.{after, storedAt, stored, written, byteIn, move}
 use Rattle.segment_knowledge.specs.declared.control.Control.{Control}
-use Rattle.segment_knowledge.specs.declared.control.Pointing.the-variants.{At}
+use Rattle.segment_knowledge.specs.declared.control.Pointing.{Pointing}
 use Rattle.segment_knowledge.specs.View.{points, cview}
 use Rattle.segment_known.specs.declared.everyday.Target.{Target}
 use Rattle.segment_known.specs.declared.everyday.Target.the-variants.{Cell, Anywhere, Nowhere, Command, Elsewhere}
@@ -32,13 +32,13 @@ use Rattle.segment_steps.specs.StepWays.{step-known}
 use Rattle.segment_known.specs.Ways.{other-in}
 use Rattle.changes.specs.Together.{put-told}
 
--- Open, write display, increment, and the address is a cell before the part's last.
+-- Open, write display, increment, and the address is a cell of the part.
 pub record Counting (s : Sizes) (c : Control) (n : ℕ) : Type 0 where
   pub opened : stands (c .position) ≡ known (at-position Open)
   pub writing : stands (c .«data») ≡ known (data-mode WriteDisplay)
   pub stepping : stands (c .stepping) ≡ known (steps Increment)
   pub address : points (c .address) ≡ known (suc n)
-  pub inside : n + 1 < s .cells
+  pub inside : n < s .cells
 
 -- Open, write display, and the address unknown.
 pub record Roaming (c : Control) : Type 0 where
@@ -63,7 +63,7 @@ Hits s c Elsewhere = Unit
 
 -- The same, of the address and of whether the stepping is known to be increment.
 abbrev pub HitsAt : Sizes → Standing → Bool → Target → Type 0
-HitsAt s at counting (Cell a) = (counting ≡ true) × ((at ≡ known (suc (a .0))) × (a .0 + 1 < s .cells))
+HitsAt s at counting (Cell a) = (counting ≡ true) × ((at ≡ known (suc (a .0))) × (a .0 < s .cells))
 HitsAt s at counting Anywhere = at ≡ unknown
 HitsAt s at counting Nowhere = ⊥
 HitsAt s at counting Command = ⊥
@@ -88,10 +88,10 @@ roamed p c b h =
     step-known (sizes p) position (byteIn (sizes p) b) c 2 (λ cells. h .opened)
     (step-known (sizes p) dataMode (written (sizes p) b) c 0 (λ cells. h .writing) (somewhere-steps p c b (h .address)))
 
--- The same with the address behind a cell.
-abbrev pub behind : Control → ℕ → Control
-behind c n = record {
-  address = At (record { 0 = n + 1 });
+-- The same with another address.
+abbrev pub pointing : Control → Pointing → Control
+pointing c at = record {
+  address = at;
   «data» = c .«data»;
   stepping = c .stepping;
   mode = c .mode;
@@ -104,17 +104,18 @@ behind c n = record {
   position = c .position;
 }
 
-pub counted : (p : Family) (c : Control) (to : Address) (b : ℕ) → Counting (sizes p) c (to .0)
-    → Steps (sizes p) (move (sizes p) (ByteIn b)) c
-    (record { control = behind c (to .0); change = Put to b })
-counted p c to b h =
+-- The byte is stored there, and the address is the one behind that cell.
+pub counted : (p : Family) (c : Control) (to : Address) (b : ℕ) (next : Pointing) → Counting (sizes p) c (to .0)
+    → points next ≡ known (pointer (after (sizes p) (to .0)))
+    → Steps (sizes p) (move (sizes p) (ByteIn b)) c (record { control = pointing c next; change = Put to b })
+counted p c to b next h e =
     step-known s position (byteIn s b) c 2 (λ cells. h .opened)
     (step-known s dataMode (written s b) c 0 (λ cells. h .writing)
     (step-known s address (stored s b) c (suc (to .0)) (λ cells. h .address)
-    (simp (lt-ltb (to .0) (s .cells) (omega (arith, h .inside)))
+    (simp (lt-ltb (to .0) (s .cells) (h .inside))
     (step-known s stepping (storedAt s b (to .0)) c 0 (λ cells. h .stepping)
     (record {
-      knows = λ cells. every _ (λ j. put-told same? cell cells-apart (cview cells c) (to .0) b j) (rw (lt-ltb (to .0 + 1) (s .cells) (h .inside)) refl) refl refl refl refl refl refl (λ j. refl) refl refl refl;
+      knows = λ cells. every _ (λ j. put-told same? cell cells-apart (cview cells c) (to .0) b j) e refl refl refl refl refl refl (λ j. refl) refl refl refl;
       inside = omega (arith, h .inside, room p .0);
     })))))
   where

@@ -2,10 +2,8 @@
 -- the address stays unknown, and nothing else changes, whether the stepping is known or not.
 use Prim.Native.Nat.{ℕ, zero, suc, _<_, _≤_}
 use native.Mathlib.Omega.{arith}
-use mathlib.Core.Path.{_≡_, refl, sym, ap, _∙_, subst, subst⁻¹}
-use mathlib.Core.Bool.{Bool}
+use mathlib.Core.Path.{_≡_, refl, sym, ap, _∙_, subst⁻¹}
 use borrow.Author.Tests.{lt-ltb}
-use Rattle.rules.specs.Choice.{whether}
 use Rattle.rules.specs.Rule.{look}
 use Rattle.rules.specs.Change.{keep}
 use Rattle.knowing.specs.Standing.{Standing, known, unknown}
@@ -14,7 +12,6 @@ use Rattle.knowing.specs.Join.{not-known, known-one, same-standing, join-swap, 
 use Rattle.knowing.specs.Look.{look-known, look-unknown}
 use Rattle.knowing.specs.Changed.{set-same, set-other, learn-other}
 use Rattle.segment.specs.declared.chip.Sizes.{Sizes}
-use Rattle.segment.specs.declared.chip.Pointer.the-variants.{At, Invalid}
 use Rattle.segment.specs.Value.{pointer}
 use Rattle.segment.specs.Fact.{Fact, same?, range, cell, address, dataMode, stepping, mode, dimming, display, led, key, switches, readCount, position}
 use Rattle.segment.specs.Laws.{cells-apart}
@@ -74,11 +71,11 @@ module _ (s : Sizes) (b i : ℕ) where
           sym (look-unknown same? (range s) stepping (storedAt s b i) l (cell i) _ e refl)
           ∙ common-same 2 _ (known b) (omega arith) (λ w h. takes (learn same? stepping w l) w)
 
--- From cell 0 the address does not become invalid.
-module _ (s : Sizes) (b : ℕ) (room : 1 < s .cells) where
+-- From a cell the address does not become invalid.
+module _ (s : Sizes) (b : ℕ) where
   behind-first : (l : Fact → Standing) → l address ≡ known 1 → (v : ℕ) → know same? (range s) (storedAt s b 0 v) l address ≡ known 0 → ⊥
   behind-first l e zero h =
-      let z : _≡_ {A = ℕ} 2 0 = known-one 2 0 (subst (λ (t : Bool). known (pointer (whether t (At (record { 0 = 1 })) Invalid)) ≡ known 0) (lt-ltb 1 (s .cells) room) h) in
+      let z = known-one _ 0 h in
       omega arith
   behind-first l e (suc v) h =
       let z : _≡_ {A = ℕ} 1 0 = known-one 1 0 (sym e ∙ h) in
@@ -139,11 +136,11 @@ module _ (s : Sizes) (b : ℕ) (k : Fact → Standing) where
       each zero h d = refl
       each (suc i) h d = at-cell (cell j) i (k (cell j)) (omega arith) (rests s b i (learn same? address (suc i) k) (cell j) (λ e. absurd (not-address j e)) (λ e. d (ap suc (sym (cells-apart j i e)))))
 
-  pub address-lost : 1 < s .cells → unknown ≡ common (suc (s .cells)) (ways address)
-  address-lost room =
+  pub address-lost : 0 < s .cells → unknown ≡ common (suc (s .cells)) (ways address)
+  address-lost some =
       sym (same-standing (common (suc (s .cells)) (ways address)) unknown
       (λ v e.
       let z : known 0 ≡ known v = common-each (suc (s .cells)) (ways address) v e 0 (omega arith) in
       let o : ways address 1 ≡ known 0 = common-each (suc (s .cells)) (ways address) v e 1 (omega arith) ∙ sym z in
-      absurd (leaves s b room (learn same? address 1 k) refl (sym (at-cell address 0 _ (omega arith) refl) ∙ o)))
+      absurd (leaves s b (learn same? address 1 k) refl (sym (at-cell address 0 _ (omega arith) refl) ∙ o)))
       (λ v e. absurd (not-known v e)))

@@ -136,9 +136,3 @@ pub top-room : (p : Family) → 1 ≤ sizes p .top
 unfolding sizes
 top-room Pt6312 = omega arith
 top-room Pt6315 = omega arith
-
--- Every part has more than one cell.
-pub cells-room : (p : Family) → 1 < sizes p .cells
-unfolding sizes
-cells-room Pt6312 = omega arith
-cells-room Pt6315 = omega arith

@@ -1,9 +1,11 @@
 // The events of every day, each in a function small enough to stand in the loop over the records: the strobe, and a byte
 // whose way is known.
 use crate::commanded::first_in;
+use crate::commanded::known_pointing;
 use changes::apply;
 use changes::meet_all;
 use segment::Family;
+use segment::behind;
 use segment_knowledge::Control;
 use segment_knowledge::FIRST;
 use segment_knowledge::IDLE;
@@ -46,7 +48,7 @@ pub fn rises(c: Control) -> Control
 
 // Where a data byte goes, as far as the events of every day ask.
 pub enum Target {
-    // To this cell, and the next byte to the one behind it.
+    // To this cell, and the next byte to the one behind it, round the ring.
     Cell(Address),
     // To any cell, or none.
     Anywhere,
@@ -100,7 +102,7 @@ fn goes_at(family: Family, address: Pointing, counting: bool) -> Target
         Pointing::At(cell) => {
             let sizes = family.sizes();
             if counting {
-                if cell.0 < sizes.cells - 1 {
+                if cell.0 < sizes.cells {
                     return Target::Cell(cell);
                 }
             }
@@ -116,10 +118,8 @@ pub fn counted_on(family: Family, c: Control, cell: Address) -> Control
     requires { ⌜ Counting (sizes family) c (cell .0) ⌝ }
     ensures { λ r. ⌜ ((b : ℕ) → Steps (sizes family) (move (sizes family) (ByteIn b)) c (record { control = r; change = Put cell b })) ⌝ }
 {
-    Control {
-        address: Pointing::At(Address(cell.0 + 1)),
-        ..c
-    }
+    let address = known_pointing(behind(family, cell));
+    Control { address, ..c }
 }
 
 // The byte may have gone to any cell: each keeps what it has in common with it.

@@ -46,6 +46,16 @@ where
             Address::Invalid
         }
     }
+
+    /// The cells are a ring: behind the last one stands the first.
+    #[inline]
+    pub(super) fn cell_behind(at: u8) -> u8 {
+        if usize::from(at) + 1 == CELLS {
+            0
+        } else {
+            at + 1
+        }
+    }
 }
 
 #[inline]

@@ -133,7 +133,9 @@ where
             Some(Address::Cell(at)) => {
                 self.cells.store(usize::from(at), byte);
                 match self.stepping {
-                    Some(Stepping::Increment) => self.address = Some(Self::address_of(at + 1)),
+                    Some(Stepping::Increment) => {
+                        self.address = Some(Address::Cell(Self::cell_behind(at)));
+                    }
                     Some(Stepping::Fixed) => {}
                     None => self.address = None,
                 }

@@ -122,7 +122,7 @@ impl KeyChip {
             WRITE_DISPLAY if address < self.cells() => {
                 changes.push((CELL + usize::from(address), Value(byte)));
                 if chip[STEPPING] == INCREMENT {
-                    changes.push((ADDRESS, Value(address + 1)));
+                    changes.push((ADDRESS, Value((address + 1) % self.cells())));
                 }
             }
             WRITE_LED => changes.push((LED, Value(byte & 15))),

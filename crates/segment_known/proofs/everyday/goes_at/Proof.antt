@@ -1,9 +1,7 @@
--- `segment_known::everyday::goes_at` meets its contract: a known cell before the last is hit where the stepping counts, and an unknown address anywhere.
+-- `segment_known::everyday::goes_at` meets its contract: a known cell of the part is hit where the stepping counts, and an unknown address anywhere.
 -- Assumes nothing.
-use native.Mathlib.Omega.{arith}
-use mathlib.Core.Path.{ap, sym}
+use mathlib.Core.Path.{ap}
 use Rattle.segment_knowledge.specs.View.{points}
-use Rattle.segment_known.specs.Ways.{cells-room}
 use borrow.Author.Needs.{needs}
 use Rattle.segment_known.proofs.everyday.goes_at.Statement.{statement}
 use Rattle.segment_known.proofs.everyday.goes_at.Tie as tie
@@ -14,11 +12,8 @@ enum-known-address c = search needs
 sizes-requires : tie.Need-sizes-requires
 sizes-requires c κs = search needs
 
-sub-if2 : tie.Need-sub-if2
-sub-if2 c = omega (arith, rw (sym (c .before .before .sizes .ensures)) at (cells-room (c .before .before .before .before .before .before .args .family)))
-
 returns : tie.Need-returns
-returns c = (c .before .before .before .if1 .taken, (ap points (c .before .before .before .before .before .before .address .given .1), omega (arith, rw (c .before .before .before .before .sizes .ensures) at (c .if2 .taken))))
+returns c = (c .before .before .before .if1 .taken, (ap points (c .before .before .before .before .before .before .address .given .1), rw (c .before .before .before .before .sizes .ensures) at (c .if2 .taken)))
 
 enum-told : tie.Need-enum-told
 enum-told c = search needs
@@ -44,7 +39,6 @@ goes-at-spec =
     (tie.spec
     enum-known-address
     sizes-requires
-    sub-if2
     returns
     enum-told
     enum-told-2
