@@ -1,5 +1,5 @@
 // Runs the examples of the file stdin: a line is a part byte and a recording, in hex. Each line is written back with the chip that it
-// ends in, and compared with the file stdout, whose values are from paper 01.
+// ends in, and compared with the file stdout, whose values are from paper 01, and of the ring of cells from paper 02 (M-101).
 mod characters;
 mod print;
 mod segments;

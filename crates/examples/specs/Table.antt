@@ -1,4 +1,4 @@
--- Paper 01's examples P1 to P14 in one table, proved by one test that computes and one law. A row has the number of
+-- Paper 01's examples P1 to P14, P2 as M-101 reads it, in one table, proved by one test that computes and one law. A row has the number of
 -- its example, the part, what is known before, the recording, its number and place, and what is known afterwards; the
 -- rows of P14 have the picture and the output, before and afterwards.
 use Prim.Native.Nat.{ℕ, zero, suc}

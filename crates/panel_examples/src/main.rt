@@ -1,5 +1,5 @@
 // Runs the examples of the file stdin, a line each, and writes each line back with what it comes to. It is compared with the file stdout, whose values
-// are from paper 01, and of packets from paper 02 (M-100).
+// are from paper 01, and of packets and of the ring of cells from paper 02 (M-100, M-101).
 //
 // A line that is a name, events, recordings or packets, says what the lines behind it are; a line that begins with # is a remark. Every other line begins
 // with a part byte, or is a packet and begins with /. Bytes are in hex, with a space between; words say what is known before, and their numbers are in hex.
