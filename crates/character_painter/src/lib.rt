@@ -1,10 +1,8 @@
-// The painter of PT6302: a picture and a lent output become the recording that paints the picture.
+// The seven strobes that paint a picture on PT6302.
 use character::Lights;
 use painting::CharacterPicture;
-use painting::Painted;
 use strobes::write_single;
 use strobes::write_strobe;
-use terms::Place;
 ghost use mathlib.Core.Path.{_≡_};
 ghost use Prim.Native.Nat.{_+_, _≤_, _<_};
 ghost use lib.ListN.{length};
@@ -13,56 +11,19 @@ ghost use Rattle.character.specs.Value.{lit};
 ghost use Rattle.terms.specs.Event.{recording};
 ghost use Rattle.painting.specs.Character.{fourSettings};
 ghost use Rattle.character_painter.specs.Seven.{ramsStream};
-ghost use Rattle.painting.specs.Fits.{allBelow, characterFits};
-ghost use Rattle.painting.specs.Answer.{characterAnswer, characterStream, written};
+ghost use Rattle.painting.specs.Answer.{characterStream, inFront};
 
-pub fn paint(picture: CharacterPicture, out: &mut [u8]) -> Painted
-    ensures { λ r. ⌜ (r ≡ characterAnswer picture (length (now (out .entry))))
-        × (now (out .exit) ≡ written (characterAnswer picture (length (now (out .entry)))) (characterStream picture) (now (out .entry))) ⌝ }
+// Writes the painting to the front of `out`.
+pub fn write(picture: CharacterPicture, out: &mut [u8])
+    requires { ⌜ (picture .port < 4) × ((picture .duty < 8) × ((picture .digits < 8) × (172 ≤ length (now out)))) ⌝ }
+    ensures { λ r. ⌜ now (out .exit) ≡ inFront (characterStream picture) (now (out .entry)) ⌝ }
 {
-    if !fits(picture) {
-        return Painted::OutOfRange(Place(0));
-    }
-    if out.len() < 172 {
-        return Painted::TooSmall(Place(0));
-    }
     let dcram = picture.dcram;
     let cgram = picture.cgram;
     let adram = picture.adram;
     let lights = picture.lights;
     let at = write_rams(out, dcram, cgram, adram);
     write_settings(out, at, picture.port, picture.duty, picture.digits, lights);
-    Painted::Done(Place(172))
-}
-
-fn fits(picture: CharacterPicture) -> bool
-    ensures { λ r. ⌜ r ≡ characterFits picture ⌝ }
-{
-    let cgram = picture.cgram;
-    let adram = picture.adram;
-    if all_below(128, &cgram) {
-        if all_below(4, &adram) {
-            if picture.port < 4 {
-                if picture.duty < 8 {
-                    return picture.digits < 8;
-                }
-            }
-        }
-    }
-    false
-}
-
-fn all_below(limit: u8, values: &[u8]) -> bool
-    ensures { λ r. ⌜ r ≡ allBelow limit (now (values .entry)) ⌝ }
-{
-    let mut i = 0;
-    while i < values.len() {
-        if limit <= values[i] {
-            return false;
-        }
-        i += 1;
-    }
-    true
 }
 
 // The three strobes of the RAMs; the place behind them.

@@ -101,9 +101,13 @@ streamFor (Is Pt6312) p = segmentStream Of6312 (p .segment)
 streamFor (Is Pt6315) p = segmentStream Of6315 (p .segment)
 streamFor (Refused a) p = []
 
--- Done, the stream stands at the front and the rest is as it was; refused, all is as it was.
+-- The stream stands at the front, and the rest is as it was.
+abbrev pub inFront : List ℕ → List ℕ → List ℕ
+inFront stream out = stream ++ drop (length stream) out
+
+-- Done, the stream stands at the front; refused, all is as it was.
 abbrev pub written : Painted → List ℕ → List ℕ → List ℕ
-written (Done a) stream out = stream ++ drop (length stream) out
+written (Done a) stream out = inFront stream out
 written (NoPart a) stream out = out
 written (OutOfRange a) stream out = out
 written (TooSmall a) stream out = out

@@ -1,7 +1,10 @@
-// The wanted picture of a panel, by value. What paints it, and that this leads every chip to the picture, stands in specs/.
+// The wanted picture of a panel, by value, and what a painting of it comes to. What paints it, and that this leads every chip to the picture, stands in specs/.
 use character::Lights;
 use segment::Display;
 use terms::Place;
+ghost use mathlib.Core.Path.{_≡_};
+ghost use lib.Dec.{eqb};
+ghost use Rattle.painting.specs.Answer.{judged as judgedAs, number};
 
 // A picture of a PT6312 or PT6315 panel: its memory and the settings that a painting sets.
 pub struct SegmentPicture {
@@ -40,4 +43,28 @@ pub enum Painted {
     OutOfRange(Place),
     // The output is too small.
     TooSmall(Place),
+}
+
+// First 9, for a value out of its range, and then 10, for too little room.
+pub fn judged(fits: bool, size: usize, room: usize) -> Painted
+    ensures { λ r. ⌜ r ≡ judgedAs fits size room ⌝ }
+{
+    if !fits {
+        return Painted::OutOfRange(Place(0));
+    }
+    if room < size {
+        return Painted::TooSmall(Place(0));
+    }
+    Painted::Done(Place(size))
+}
+
+pub fn is_done(answer: Painted) -> bool
+    ensures { λ r. ⌜ r ≡ eqb (number answer) 0 ⌝ }
+{
+    match answer {
+        Painted::Done(_) => true,
+        Painted::NoPart(_) => false,
+        Painted::OutOfRange(_) => false,
+        Painted::TooSmall(_) => false,
+    }
 }

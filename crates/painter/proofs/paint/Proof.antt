@@ -31,20 +31,20 @@ enum-known-known c = search needs
 enum-told : tie.Need-enum-told
 enum-told c = search needs
 
-paint-requires : tie.Need-paint-requires
-paint-requires c κs = search needs
+characters-requires : tie.Need-characters-requires
+characters-requires c κs = search needs
 
 enum-told-2 : tie.Need-enum-told-2
 enum-told-2 c = search needs
 
-paint-requires-2 : tie.Need-paint-requires-2
-paint-requires-2 c κs = search needs
+segments-requires : tie.Need-segments-requires
+segments-requires c κs = search needs
 
 enum-told-3 : tie.Need-enum-told-3
 enum-told-3 c = search needs
 
-paint-requires-3 : tie.Need-paint-requires-3
-paint-requires-3 c κs = search needs
+segments-requires-2 : tie.Need-segments-requires-2
+segments-requires-2 c κs = search needs
 
 enum-known-place : tie.Need-enum-known-place
 enum-known-place c = search needs
@@ -56,7 +56,7 @@ returns : tie.Need-returns
 returns c =
     let a = c .before .before .before .before .before .before .before .before .before .before .before .before .before .args in
     let e : partOf (a .part) ≡ Is Pt6302 = sym (c .before .before .before .before .before .before .before .before .before .part-of .ensures .0) ∙ c .before .before .before .before .before .before .before .known .given .1 ∙ ap Is (c .before .before .before .before .enum-told .given .1) in
-    numbered (a .part) (a .picture) (length (a .out .now)) _ _ (rw e (c .before .before .paint .ensures .0)) (rw e (c .before .before .paint .ensures .1))
+    numbered (a .part) (a .picture) (length (a .out .now)) _ _ (rw e (c .before .before .characters .ensures .0)) (rw e (c .before .before .characters .ensures .1))
 
 same-length-2 : tie.Need-same-length-2
 same-length-2 c = search needs
@@ -65,7 +65,7 @@ returns-2 : tie.Need-returns-2
 returns-2 c =
     let a = c .before .before .before .before .before .before .before .before .before .before .before .before .before .args in
     let e : partOf (a .part) ≡ Is Pt6312 = sym (c .before .before .before .before .before .before .before .before .before .part-of .ensures .0) ∙ c .before .before .before .before .before .before .before .known .given .1 ∙ ap Is (c .before .before .before .before .enum-told2 .given .1) in
-    numbered (a .part) (a .picture) (length (a .out .now)) _ _ (rw e (c .before .before .paint2 .ensures .0)) (rw e (c .before .before .paint2 .ensures .1))
+    numbered (a .part) (a .picture) (length (a .out .now)) _ _ (rw e (c .before .before .segments .ensures .0)) (rw e (c .before .before .segments .ensures .1))
 
 same-length-3 : tie.Need-same-length-3
 same-length-3 c = search needs
@@ -74,7 +74,7 @@ returns-3 : tie.Need-returns-3
 returns-3 c =
     let a = c .before .before .before .before .before .before .before .before .before .before .before .before .before .args in
     let e : partOf (a .part) ≡ Is Pt6315 = sym (c .before .before .before .before .before .before .before .before .before .part-of .ensures .0) ∙ c .before .before .before .before .before .before .before .known .given .1 ∙ ap Is (c .before .before .before .before .enum-told3 .given .1) in
-    numbered (a .part) (a .picture) (length (a .out .now)) _ _ (rw e (c .before .before .paint3 .ensures .0)) (rw e (c .before .before .paint3 .ensures .1))
+    numbered (a .part) (a .picture) (length (a .out .now)) _ _ (rw e (c .before .before .segments2 .ensures .0)) (rw e (c .before .before .segments2 .ensures .1))
 
 returns-4 : tie.Need-returns-4
 returns-4 c =
@@ -89,11 +89,11 @@ paint-spec =
     part-of-requires
     enum-known-known
     enum-told
-    paint-requires
+    characters-requires
     enum-told-2
-    paint-requires-2
+    segments-requires
     enum-told-3
-    paint-requires-3
+    segments-requires-2
     enum-known-place
     same-length
     returns

@@ -1,12 +1,12 @@
--- `segment_painter::fits` meets its contract: the tests are those of the definition, in its order.
+-- `segment_fits::fits` meets its contract: the tests are those of the definition, in its order.
 -- Assumes nothing.
 use native.Mathlib.Omega.{arith}
 use borrow.Author.Tests.{lt-ltb, le-ltb}
 use Prim.Native.Nat.{_<_, suc, _≤_}
 use Rattle.segment.specs.Family.{sizes}
 use borrow.Author.Needs.{needs}
-use Rattle.segment_painter.proofs.fits.Statement.{statement}
-use Rattle.segment_painter.proofs.fits.Tie as tie
+use Rattle.segment_fits.proofs.fits.Statement.{statement}
+use Rattle.segment_fits.proofs.fits.Tie as tie
 
 sizes-requires : tie.Need-sizes-requires
 sizes-requires c κs = search needs

@@ -1,4 +1,4 @@
--- `character_painter::all_below` meets its contract: what is left to test is the rest of the list, and each test takes its first number off.
+-- `character_fits::all_below` meets its contract: what is left to test is the rest of the list, and each test takes its first number off.
 -- Assumes nothing.
 use Rattle.painting.specs.Fits.{allBelow, below-drop}
 use native.Mathlib.Omega.{arith}
@@ -8,8 +8,8 @@ use lib.Seq.{drop-length}
 use mathlib.Core.Path.{_≡_, _∙_, refl, sym}
 use borrow.Author.Tests.{lt-ltb, le-ltb}
 use Rattle.painting.specs.Fits.{allBelow}
-use Rattle.character_painter.proofs.all_below.Statement.{statement}
-use Rattle.character_painter.proofs.all_below.Tie as tie
+use Rattle.character_fits.proofs.all_below.Statement.{statement}
+use Rattle.character_fits.proofs.all_below.Tie as tie
 
 abbrev Inv-loop : tie.InvT-loop
 Inv-loop limit values i₀ i = (i ≤ length values) × (allBelow limit values ≡ allBelow limit (drop i values))

@@ -1,12 +1,12 @@
--- `character_painter::fits` meets its contract: the tests are those of the definition, in its order.
+-- `character_fits::fits` meets its contract: the tests are those of the definition, in its order.
 -- Assumes nothing.
 use borrow.Author.Tests.{lt-ltb, le-ltb}
 use mathlib.Core.Path.{_≡_, _∙_, sym}
 use mathlib.Core.Bool.{true, false}
 use Rattle.painting.specs.Fits.{allBelow}
 use borrow.Author.Needs.{needs}
-use Rattle.character_painter.proofs.fits.Statement.{statement}
-use Rattle.character_painter.proofs.fits.Tie as tie
+use Rattle.character_fits.proofs.fits.Statement.{statement}
+use Rattle.character_fits.proofs.fits.Tie as tie
 
 slice-aggregate-all-below : tie.Need-slice-aggregate-all-below
 slice-aggregate-all-below c = search needs
