@@ -7,11 +7,23 @@ use Rattle.rules.specs.Where.{where-map}
 use Rattle.terms.specs.declared.Event.{Event}
 use Rattle.terms.specs.declared.Part.{Part}
 use Rattle.terms.specs.declared.PartRead.{PartRead}
+use Rattle.segment.specs.declared.chip.Family.{Family}
+use Rattle.segment.specs.declared.chip.Family.the-variants.{Pt6312, Pt6315}
+use Rattle.segment.specs.Family.{sizes}
+use Rattle.segment.specs.Move as SegmentMove
+use Rattle.segment_knowledge.specs.View as OfSegment
+use Rattle.parts.specs.Kind.{inFamily}
 use Rattle.panel.specs.declared.knowledge.Panel.{Panel}
 use Rattle.hearing_answer.specs.declared.Answer.{Answer}
 use Rattle.hearing_answer.specs.Answer.{number, Numbered, eventNumber, Answers}
 use Rattle.hearing.specs.declared.events.Heard.{Heard}
 use Rattle.hearing.specs.Event.{After, HeardBy, HearsPart, Hears}
+
+-- What the half of PT6312 and PT6315 becomes, it becomes for the part whose numbers it goes by.
+pub segment-after : (q : Family) (e : Event) (k r : Panel) → OfSegment.Knows (sizes q) (SegmentMove.move (sizes q) e) (k .segment) (r .segment) → r .character ≡ k .character
+    → After (inFamily q) e k r
+segment-after Pt6312 e k r h o = record { known = h; kept = o }
+segment-after Pt6315 e k r h o = record { known = h; kept = o }
 
 pub hears-as : (a b : PartRead) (e : Event) (k : Panel) (r : Heard) → a ≡ b → Hears a e k r → Hears b e k r
 hears-as a b e k r p h = subst (λ (x : PartRead). Hears x e k r) p h

@@ -1,4 +1,5 @@
 // What is known of a panel. Its part byte stands beside it, and says which half speaks of it; the other half is kept as it is.
+ghost use mathlib.Core.Path.{_≡_};
 ghost use Rattle.panel.specs.View.{KnowsNothing};
 
 pub struct Panel {
@@ -13,4 +14,18 @@ pub fn nothing_known() -> Panel
         segment: segment_knowledge::nothing_known(),
         character: character_knowledge::nothing_known(),
     }
+}
+
+// The panel with another half for PT6312 and PT6315.
+pub fn with_segment(panel: Panel, segment: segment_knowledge::Knowledge) -> Panel
+    ensures { λ r. ⌜ (r .segment ≡ segment) × (r .character ≡ panel .character) ⌝ }
+{
+    Panel { segment, ..panel }
+}
+
+// The panel with another half for PT6302.
+pub fn with_character(panel: Panel, character: character_knowledge::Knowledge) -> Panel
+    ensures { λ r. ⌜ (r .character ≡ character) × (r .segment ≡ panel .segment) ⌝ }
+{
+    Panel { character, ..panel }
 }

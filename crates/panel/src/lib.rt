@@ -3,3 +3,5 @@ mod knowledge;
 
 pub use knowledge::Panel;
 pub use knowledge::nothing_known;
+pub use knowledge::with_character;
+pub use knowledge::with_segment;

@@ -6,7 +6,9 @@ use Rattle.terms.specs.declared.Part.{Part}
 use Rattle.recording.specs.Walk.{walked, events, endOf}
 use Rattle.walks.specs.Turn.{InTurn}
 use Rattle.parts.specs.Facts.{same?, range, move}
+use Rattle.parts.specs.Kind.{inFamily}
 use Rattle.segment.specs.declared.chip.Family.{Family}
+use Rattle.segment.specs.declared.chip.Family.the-variants.{Pt6312, Pt6315}
 use Rattle.segment.specs.Family.{sizes}
 use Rattle.segment.specs.Fact as SegmentFact
 use Rattle.segment.specs.Move as SegmentMove
@@ -28,3 +30,8 @@ pub record SegmentWalks (part : Part) (p : Family) (k : Panel) (l : List ℕ) (r
   pub known : InTurn OfSegment.kview SegmentFact.same? (SegmentFact.range (sizes p)) (SegmentMove.move (sizes p))
       (events (walked part l)) (k .segment) (r .panel .segment)
   pub kept : r .panel .character ≡ k .character
+
+-- By a part's own numbers the one is the other.
+pub by-family : (q : Family) (k : Panel) (l : List ℕ) (r : PanelWalked) → SegmentWalks (inFamily q) q k l r → Walks (inFamily q) k l r
+by-family Pt6312 k l r w = record { ended = w .ended; known = w .known; kept = w .kept }
+by-family Pt6315 k l r w = record { ended = w .ended; known = w .known; kept = w .kept }

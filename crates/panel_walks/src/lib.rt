@@ -1,6 +1,10 @@
 // The walk over the records of a recording, through the knowledge of a panel of any part.
 use character_walks::character_walk;
 use panel::Panel;
+use panel::with_character;
+use panel::with_segment;
+use parts::Kind;
+use parts::kind_of;
 use recording::Ending;
 use segment::Family;
 use segment_walks::segment_walk;
@@ -17,10 +21,9 @@ pub struct PanelWalked {
 pub fn panel_walk(part: Part, panel: Panel, bytes: &[u8]) -> PanelWalked
     ensures { λ r. ⌜ Walks part panel (now (bytes .entry)) r ⌝ }
 {
-    match part {
-        Part::Pt6302 => character_walked(panel, bytes),
-        Part::Pt6312 => segment_walked(Part::Pt6312, Family::Pt6312, panel, bytes),
-        Part::Pt6315 => segment_walked(Part::Pt6315, Family::Pt6315, panel, bytes),
+    match kind_of(part) {
+        Kind::Character => character_walked(panel, bytes),
+        Kind::Segment(family) => segment_walked(part, family, panel, bytes),
     }
 }
 
@@ -33,7 +36,7 @@ fn segment_walked(part: Part, family: Family, panel: Panel, bytes: &[u8]) -> Pan
     let segment = walked.k;
     PanelWalked {
         ending,
-        panel: Panel { segment, ..panel },
+        panel: with_segment(panel, segment),
     }
 }
 
@@ -46,6 +49,6 @@ fn character_walked(panel: Panel, bytes: &[u8]) -> PanelWalked
     let character = walked.k;
     PanelWalked {
         ending,
-        panel: Panel { character, ..panel },
+        panel: with_character(panel, character),
     }
 }

@@ -1,2 +1,3 @@
 pub mod Facts
 pub mod Laws
+pub mod Kind
