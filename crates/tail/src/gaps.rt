@@ -3,11 +3,10 @@ use answers::Answer;
 use answers::refused;
 use recording::Read;
 use recording::record_at;
-use terms::Event;
+use tail_starts::behind;
 use terms::Part;
 use terms::Place;
 ghost use mathlib.Core.Path.{_≡_};
-ghost use Rattle.recording.specs.Walk.{onGap};
 ghost use Rattle.tail.specs.Tail.{foundIn};
 
 // The answer, and where the tail starts and ends in the recording: refused, it is the empty part at the front.
@@ -42,22 +41,5 @@ pub fn walk_gaps(part: Part, bytes: &[u8]) -> Found
         answer: Answer::Done(Place(i)),
         start: Place(start),
         end: Place(i),
-    }
-}
-
-// Behind a gap the tail starts anew.
-fn behind(event: Event, here: usize, before: usize) -> usize
-    ensures { λ r. ⌜ r ≡ onGap event here before ⌝ }
-{
-    match event {
-        Event::Gap => here,
-        Event::Power => before,
-        Event::Falls => before,
-        Event::ByteIn(_) => before,
-        Event::Rises => before,
-        Event::Unfinished(_) => before,
-        Event::Keys(_, _, _, _) => before,
-        Event::Switches(_) => before,
-        Event::ByteOut => before,
     }
 }

@@ -1,7 +1,7 @@
--- `gaps::behind` meets its contract: each arm knows which event it is, and `onGap` goes by that. Assumes nothing.
+-- `tail_starts::behind` meets its contract: each arm knows which event it is, and `onGap` goes by that. Assumes nothing.
 use borrow.Author.Needs.{needs}
-use Rattle.tail.proofs.gaps.behind.Statement.{statement}
-use Rattle.tail.proofs.gaps.behind.Tie as tie
+use Rattle.tail_starts.proofs.behind.Statement.{statement}
+use Rattle.tail_starts.proofs.behind.Tie as tie
 
 enum-told : tie.Need-enum-told
 enum-told c = search needs
