@@ -6,7 +6,7 @@ use character::Lights;
 use character::Moved;
 use character::Position;
 use example_text::Line;
-use example_text::part;
+use example_text::show_facts;
 use example_text::text;
 use terms::Address;
 
@@ -49,67 +49,63 @@ pub fn after(line: Line, moved: Moved) -> Moved {
 
 pub fn show(moved: Moved) {
     let chip = moved.chip;
-    print::number(b"    DCRAM at ", chip.dcram_at.0);
-    print::number(b", CGRAM at ", chip.cgram_at.0);
-    print::number(b" column ", chip.column);
-    print::number(b", ADRAM at ", chip.adram_at.0);
-    print::number(b", port ", chip.port);
-    print::number(b", duty ", chip.duty);
-    print::number(b", digits ", chip.digits);
-    let lit = chip.lights;
-    lights(lit);
-    let at = chip.position;
-    position(at);
-    let dcram = chip.dcram;
-    text(b"\n    D");
-    sixteen(dcram, 0x6E);
-    let cgram = chip.cgram;
-    text(b"; G");
-    forty(cgram, 0x6E);
-    let adram = chip.adram;
-    text(b"; A");
-    sixteen(adram, 2);
+    show_facts(
+        b"    |DCRAM at ;, |CGRAM at ; |column ;, |ADRAM at ;, |port ;, |duty ;, |digits ;, |/normal/off/on;, |/idle/first byte/to DCRAM/to CGRAM/to ADRAM/ignoring",
+        codes_of(chip),
+        0,
+        9,
+        true,
+    );
+    rams(chip);
     let any = moved.any;
-    anything(any);
+    print::flags(
+        b" memory/ settings/ position",
+        &[any.memory, any.settings, any.position],
+    );
+    text(b"\n");
 }
 
-fn sixteen(cells: [u8; 16], before: u8) {
-    print::changed(&cells, before);
+fn codes_of(chip: Character) -> [u16; 10] {
+    let lit = chip.lights;
+    let at = chip.position;
+    [
+        chip.dcram_at.0 as u16,
+        chip.cgram_at.0 as u16,
+        chip.column as u16,
+        chip.adram_at.0 as u16,
+        chip.port as u16,
+        chip.duty as u16,
+        chip.digits as u16,
+        lights(lit),
+        position(at),
+        256,
+    ]
 }
 
-fn forty(cells: [u8; 40], before: u8) {
-    print::changed(&cells, before);
-}
-
-fn lights(lights: Lights) {
-    let n = match lights {
+fn lights(lights: Lights) -> u16 {
+    match lights {
         Lights::Normal => 0,
         Lights::Off => 1,
         Lights::On => 2,
-    };
-    text(part(b", normal/, off/, on", b'/', n));
+    }
 }
 
-fn position(position: Position) {
-    let n = match position {
+fn position(position: Position) -> u16 {
+    match position {
         Position::Idle => 0,
         Position::First => 1,
         Position::Dcram => 2,
         Position::Cgram => 3,
         Position::Adram => 4,
         Position::Ignoring => 5,
-    };
-    text(part(
-        b", idle/, first byte/, to DCRAM/, to CGRAM/, to ADRAM/, ignoring",
-        b'/',
-        n,
-    ));
+    }
 }
 
-fn anything(any: Anything) {
-    text(b"; anything:");
-    print::flag(b" memory", any.memory);
-    print::flag(b" settings", any.settings);
-    print::flag(b" position", any.position);
-    text(b"\n");
+fn rams(chip: Character) {
+    let dcram = chip.dcram;
+    print::changed(b"\n    D", &dcram, 0x6E);
+    let cgram = chip.cgram;
+    print::changed(b"; G", &cgram, 0x6E);
+    let adram = chip.adram;
+    print::changed(b"; A", &adram, 2);
 }

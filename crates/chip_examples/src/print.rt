@@ -1,4 +1,5 @@
 // Words and numbers on standard output.
+use example_text::part;
 use example_text::text;
 use libc::STDOUT_FILENO;
 
@@ -16,14 +17,21 @@ pub fn cell(at: u64, byte: u8) {
     io::print_hex(STDOUT_FILENO, byte as u64, 2);
 }
 
-pub fn flag(name: &[u8], on: bool) {
-    if on {
-        text(name);
+// What is anything: the names of the flags that are on.
+pub fn flags(names: &[u8], on: &[bool]) {
+    text(b"; anything:");
+    let mut i = 0;
+    while i < on.len() {
+        if on[i] {
+            text(part(names, b'/', i));
+        }
+        i += 1;
     }
 }
 
-// What stands in the cells that do not hold what all held before.
-pub fn changed(cells: &[u8], before: u8) {
+// A name, and what stands in the cells that do not hold what all held before.
+pub fn changed(name: &[u8], cells: &[u8], before: u8) {
+    text(name);
     let mut i = 0;
     while i < cells.len() {
         if cells[i] != before {

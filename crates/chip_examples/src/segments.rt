@@ -1,7 +1,7 @@
 // PT6312 and PT6315.
 use crate::print;
 use example_text::Line;
-use example_text::part;
+use example_text::show_facts;
 use example_text::text;
 use segment::Anything;
 use segment::Data;
@@ -58,80 +58,80 @@ pub fn after(line: Line, moved: Moved) -> Moved {
 
 pub fn show(family: Family, moved: Moved) {
     let chip = moved.chip;
-    let to = chip.address;
-    address(to);
-    let mode = chip.data;
-    data(mode);
-    let step = chip.stepping;
-    stepping(step);
-    print::number(b", mode ", chip.mode);
-    print::number(b", dimming ", chip.dimming);
-    let shown = chip.display;
-    display(shown);
-    print::number(b", LED ", chip.led);
-    print::number(b", count ", chip.count);
-    let at = chip.position;
-    position(at);
-    text(b"\n    cells");
+    show_facts(
+        b"    |address ;, |/write display/write LED/read keys/read switches;, |/increment/fixed;, |mode ;, |dimming ;, |/off/on;, |LED ;, |count ;, |/idle/first byte/open/ignoring",
+        codes_of(chip),
+        0,
+        9,
+        true,
+    );
     let cells = chip.cells;
-    print::changed(&cells, 0xEE);
+    print::changed(b"\n    cells", &cells, 0xEE);
     let any = moved.any;
-    anything(any);
+    print::flags(
+        b" memory/ data mode/ settings/ keys and switches/ position",
+        &[any.memory, any.data, any.settings, any.inputs, any.position],
+    );
     next(family, chip);
 }
 
-fn address(address: Pointer) {
+fn codes_of(chip: Segment) -> [u16; 10] {
+    let to = chip.address;
+    let mode = chip.data;
+    let step = chip.stepping;
+    let shown = chip.display;
+    let at = chip.position;
+    [
+        address(to),
+        data(mode),
+        stepping(step),
+        chip.mode as u16,
+        chip.dimming as u16,
+        display(shown),
+        chip.led as u16,
+        chip.count as u16,
+        position(at),
+        256,
+    ]
+}
+
+fn address(address: Pointer) -> u16 {
     match address {
-        Pointer::At(cell) => print::number(b"    address ", cell.0),
-        Pointer::Invalid => text(b"    address invalid"),
+        Pointer::At(cell) => cell.0 as u16,
+        Pointer::Invalid => 257,
     }
 }
 
-fn data(data: Data) {
-    let n = match data {
+fn data(data: Data) -> u16 {
+    match data {
         Data::WriteDisplay => 0,
         Data::WriteLed => 1,
         Data::ReadKeys => 2,
         Data::ReadSwitches => 3,
-    };
-    text(part(
-        b", write display/, write LED/, read keys/, read switches",
-        b'/',
-        n,
-    ));
+    }
 }
 
-fn stepping(stepping: Stepping) {
+fn stepping(stepping: Stepping) -> u16 {
     match stepping {
-        Stepping::Increment => text(b", increment"),
-        Stepping::Fixed => text(b", fixed"),
+        Stepping::Increment => 0,
+        Stepping::Fixed => 1,
     }
 }
 
-fn display(display: Display) {
+fn display(display: Display) -> u16 {
     match display {
-        Display::Off => text(b", off"),
-        Display::On => text(b", on"),
+        Display::Off => 0,
+        Display::On => 1,
     }
 }
 
-fn position(position: Position) {
-    let n = match position {
+fn position(position: Position) -> u16 {
+    match position {
         Position::Idle => 0,
         Position::First => 1,
         Position::Open => 2,
         Position::Ignoring => 3,
-    };
-    text(part(b", idle/, first byte/, open/, ignoring", b'/', n));
-}
-
-fn anything(any: Anything) {
-    text(b"; anything:");
-    print::flag(b" memory", any.memory);
-    print::flag(b" data mode", any.data);
-    print::flag(b" settings", any.settings);
-    print::flag(b" keys and switches", any.inputs);
-    print::flag(b" position", any.position);
+    }
 }
 
 fn next(family: Family, chip: Segment) {

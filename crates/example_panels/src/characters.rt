@@ -1,11 +1,11 @@
 // What is known of a PT6302 panel, in words.
 use crate::codes;
-use crate::facts::code;
-use crate::facts::show_facts;
+use crate::codes::code;
 use character_knowledge::Control;
 use character_knowledge::Knowledge;
 use character_knowledge::Pointing;
 use example_text::character;
+use example_text::show_facts;
 
 // Writes everything, and what is unknown, on three lines, or all but unknown single facts on one. It begins with a line end and has none behind it.
 pub fn show_characters(k: Knowledge, all: bool) {
@@ -64,19 +64,11 @@ fn control(codes: [u16; 10], all: bool) {
 // The RAMs stand on one line, with a mark between them.
 fn memory(k: Knowledge, mark: u8) {
     let dcram = k.dcram;
-    sixteen(b"\n    DCRAM", dcram);
+    codes::runs(b"\n    DCRAM", &dcram, 16);
     character(mark);
     let cgram = k.cgram;
-    forty(cgram);
+    codes::runs(b" CGRAM", &cgram, 40);
     character(mark);
     let adram = k.adram;
-    sixteen(b" ADRAM", adram);
-}
-
-fn sixteen(name: &[u8], codes: [u16; 16]) {
-    codes::runs(name, &codes, 16);
-}
-
-fn forty(codes: [u16; 40]) {
-    codes::runs(b" CGRAM", &codes, 40);
+    codes::runs(b" ADRAM", &adram, 16);
 }

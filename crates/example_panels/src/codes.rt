@@ -3,6 +3,15 @@ use example_text::character;
 use example_text::hex;
 use example_text::spaced;
 use example_text::text;
+use standing::Standing;
+
+// The code of a single fact.
+pub fn code(fact: Standing) -> u16 {
+    match fact {
+        Standing::Known(n) => n as u16,
+        Standing::Unknown => 256,
+    }
+}
 
 // Writes the name of a row and its first codes, in which neighbours that are the same stand together so that lines stay short.
 pub fn runs(name: &[u8], codes: &[u16], count: usize) {

@@ -2,7 +2,6 @@
 mod characters;
 mod codes;
 mod example;
-mod facts;
 mod known;
 mod memory;
 mod segments;

@@ -1,7 +1,7 @@
 // What is known of a PT6312 or PT6315 panel, in words. What the part lacks is not shown.
 use crate::codes;
-use crate::facts::code;
-use crate::facts::show_facts;
+use crate::codes::code;
+use example_text::show_facts;
 use segment_knowledge::Control;
 use segment_knowledge::Knowledge;
 use segment_knowledge::Pointing;

@@ -7,10 +7,13 @@ use Rattle.chip_examples.proofs.print.changed.Statement.{statement}
 use Rattle.chip_examples.proofs.print.changed.Tie as tie
 
 abbrev Inv-loop : tie.InvT-loop
-Inv-loop cells before i₀ i = i ≤ length cells
+Inv-loop name cells before i₀ i = i ≤ length cells
 
 abbrev μ-loop : tie.MeasureT-loop
-μ-loop cells before i₀ i = length cells - i
+μ-loop name cells before i₀ i = length cells - i
+
+text-requires : tie.Need-text-requires Inv-loop μ-loop
+text-requires c κs = search needs
 
 loop-holds : tie.Need-loop-holds Inv-loop μ-loop
 loop-holds c = search needs
@@ -42,6 +45,7 @@ changed-spec =
     (tie.spec
     Inv-loop
     μ-loop
+    text-requires
     loop-holds
     shared-slice-read-if1
     shared-slice-read-cell
