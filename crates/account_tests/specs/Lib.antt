@@ -1,6 +1,4 @@
-pub mod Fair
 pub mod Tests
 pub mod TestLaws
 pub mod Close
-pub mod Laws
 pub mod Unique

@@ -11,7 +11,7 @@ use Rattle.account.specs.declared.kept.Kept.the-variants as Stands
 use Rattle.account.specs.declared.unfinished.Unfinished.the-variants.{None}
 use Rattle.account.specs.Bytes as Bytes
 use Rattle.account.specs.Bytes.{bytesOf}
-use Rattle.account_tests.specs.Fair.{MayStand}
+use Rattle.account_fair.specs.Fair.{MayStand}
 use Rattle.feed.specs.declared.state.Feed.{Feed}
 
 -- Before the first packet nothing is unfinished, no byte has come, and no refusal stands.

@@ -1,7 +1,7 @@
 // What a packet is refused for before its first record: test 2 of the knowledge and of the account, and what follows it.
 use crate::state::Feed;
+use account_fair::is_fair;
 use account_tests::admitted;
-use account_tests::is_fair;
 use answers::Answer;
 use answers::Trial;
 use panel_ranges::in_range;

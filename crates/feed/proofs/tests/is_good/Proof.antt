@@ -3,7 +3,7 @@
 use mathlib.Core.Bool.{true≢false}
 use mathlib.Core.Path.{sym, _∙_}
 use Rattle.standing.specs.View.{tells-as}
-use Rattle.account_tests.specs.Laws.{not-so}
+use Rattle.account_fair.specs.Laws.{not-so}
 use borrow.Author.Needs.{needs}
 use Rattle.feed.proofs.tests.is_good.Statement.{statement}
 use Rattle.feed.proofs.tests.is_good.Tie as tie

@@ -1,14 +1,14 @@
--- `account_tests::tests::is_fair` meets its contract: the tests, each of what it is of.
+-- `account_fair::is_fair` meets its contract: the tests, each of what it is of.
 -- Assumes nothing.
 use native.Mathlib.Omega.{arith}
 use mathlib.Core.Bool.{true≢false}
 use mathlib.Core.Path.{sym, _∙_}
 use borrow.Author.Tests.{not-true, not-false}
 use Rattle.standing.specs.View.{tells-as}
-use Rattle.account_tests.specs.Laws.{not-so}
+use Rattle.account_fair.specs.Laws.{not-so}
 use borrow.Author.Needs.{needs}
-use Rattle.account_tests.proofs.tests.is_fair.Statement.{statement}
-use Rattle.account_tests.proofs.tests.is_fair.Tie as tie
+use Rattle.account_fair.proofs.is_fair.Statement.{statement}
+use Rattle.account_fair.proofs.is_fair.Tie as tie
 
 is-start-requires : tie.Need-is-start-requires
 is-start-requires c κs = search needs

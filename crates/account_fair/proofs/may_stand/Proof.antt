@@ -1,14 +1,14 @@
--- `account_tests::tests::may_stand` meets its contract: 5, 6 and 8 stand, and so does no refusal.
+-- `account_fair::may_stand` meets its contract: 5, 6 and 8 stand, and so does no refusal.
 -- Assumes nothing.
 use mathlib.Core.Path.{_≡_, refl, _∙_}
 use mathlib.Core.Bool.{_||_}
 use mathlib.Core.Logic.{⊎-elim}
 use lib.Dec.{eqb}
 use borrow.Author.Tests.{eq-eqb, ne-eqb}
-use Rattle.account_tests.specs.Laws.{stands-early, stands-late}
+use Rattle.account_fair.specs.Laws.{stands-early, stands-late}
 use borrow.Author.Needs.{needs}
-use Rattle.account_tests.proofs.tests.may_stand.Statement.{statement}
-use Rattle.account_tests.proofs.tests.may_stand.Tie as tie
+use Rattle.account_fair.proofs.may_stand.Statement.{statement}
+use Rattle.account_fair.proofs.may_stand.Tie as tie
 
 -- The first two tests together.
 tested : (c : tie.Joined1) → c .if1 .if2 ≡ (eqb (c .before .told-of .result .0) 5 || eqb (c .before .told-of .result .0) 6)

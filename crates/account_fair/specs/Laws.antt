@@ -19,7 +19,7 @@ use Rattle.recording.specs.Start.{CutOff, cut-off}
 use Rattle.answers.specs.declared.Answer.{Answer}
 use Rattle.answers.specs.Answer.{number}
 use Rattle.account.specs.Laws.{of-none}
-use Rattle.account_tests.specs.Fair.{stands}
+use Rattle.account_fair.specs.Fair.{stands}
 
 -- A test of what does not hold.
 pub not-so : {P : Type 0} → (P → ⊥) → Tests false P

@@ -1,4 +1,4 @@
--- `account_tests::tests::is_start` meets its contract: no bytes are a start, and others are the front of their row.
+-- `account_fair::is_start` meets its contract: no bytes are a start, and others are the front of their row.
 -- Assumes nothing.
 use Prim.Native.Nat.{_≤_}
 use native.Mathlib.Omega.{arith}
@@ -6,10 +6,10 @@ use mathlib.Core.Path.{sym, ap, _∙_}
 use lib.ListN.{length}
 use lib.Seq.{length-take-le}
 use Rattle.account.specs.Laws.{four-at-most, front-of-row}
-use Rattle.account_tests.specs.Laws.{cut-none}
+use Rattle.account_fair.specs.Laws.{cut-none}
 use borrow.Author.Needs.{needs}
-use Rattle.account_tests.proofs.tests.is_start.Statement.{statement}
-use Rattle.account_tests.proofs.tests.is_start.Tie as tie
+use Rattle.account_fair.proofs.is_start.Statement.{statement}
+use Rattle.account_fair.proofs.is_start.Tie as tie
 
 -- The bytes are no more than their row.
 within : (c : tie.After-row-of) → c .before .before .count-of .result ≤ length (c .row-of .result)

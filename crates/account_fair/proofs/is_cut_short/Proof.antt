@@ -1,11 +1,11 @@
--- `account_tests::tests::is_cut_short` meets its contract: what is read at the front tells whether the bytes are cut short.
+-- `account_fair::is_cut_short` meets its contract: what is read at the front tells whether the bytes are cut short.
 -- Assumes nothing.
 use mathlib.Core.Path.{sym, ap, _∙_}
 use Rattle.recording.specs.declared.read.Read.the-variants.{Refused}
-use Rattle.account_tests.specs.Laws.{is-cut, is-told}
+use Rattle.account_fair.specs.Laws.{is-cut, is-told}
 use borrow.Author.Needs.{needs}
-use Rattle.account_tests.proofs.tests.is_cut_short.Statement.{statement}
-use Rattle.account_tests.proofs.tests.is_cut_short.Tie as tie
+use Rattle.account_fair.proofs.is_cut_short.Statement.{statement}
+use Rattle.account_fair.proofs.is_cut_short.Tie as tie
 
 record-at-requires : tie.Need-record-at-requires
 record-at-requires c κs = search needs
