@@ -1,4 +1,5 @@
 pub mod Standing
+pub mod Holds
 pub mod Know
 pub mod Join
 pub mod Fill

@@ -17,6 +17,7 @@ use Rattle.rules.specs.Choice.{whether}
 use Rattle.knowing.specs.Standing.{Standing, known, unknown, Within}
 use Rattle.knowing.specs.Know.{join, keptIf, lifted}
 use Rattle.knowing.specs.Join.{not-known, known-one, join-both, join-other}
+use Rattle.knowing.specs.Holds.{holds}
 use Rattle.standing.specs.View.{coded, Tests}
 
 -- A list of one number, and that number behind it.
@@ -219,3 +220,11 @@ same-row n l m ll lm h = same-list n l m ll lm (λ i. at i (decLt i n))
         let x : getD l i 0 ≡ 0 = List·getD-eq-default l 0 (omega arith) in
         let y : getD m i 0 ≡ 0 = List·getD-eq-default m 0 (omega arith) in
         x ∙ sym y
+
+-- A code is that of a byte exactly where it is known to be that byte.
+pub holds-coded : (a b : ℕ) → b < 256 → eqb a b ≡ holds (coded a) b
+holds-coded a b h = go (eqb a 256) refl
+  where
+    go : (t : Bool) → eqb a 256 ≡ t → eqb a b ≡ holds (whether t unknown (known a)) b
+    go true e = ne-eqb a b (λ p. let q = eqb-true a 256 e in omega arith)
+    go false e = refl

@@ -3,6 +3,7 @@ ghost use mathlib.Core.Path.{_≡_};
 ghost use Prim.Native.Nat.{_≤_};
 ghost use lib.ListN.{length};
 ghost use Rattle.knowing.specs.Standing.{Within};
+ghost use Rattle.knowing.specs.Holds.{holds};
 ghost use Rattle.standing.specs.View.{coded, Tests};
 ghost use Rattle.standing.specs.Codes.{bothCodes, Joined, RowSound, Small};
 
@@ -11,6 +12,13 @@ pub fn both_codes(a: u16, b: u16) -> u16
     ensures { λ r. ⌜ r ≡ bothCodes a b ⌝ }
 {
     if a == b { a } else { 256 }
+}
+
+// This cell is known to hold this byte: one function for all that compares a cell with a byte.
+pub fn holds(code: u16, byte: u8) -> bool
+    ensures { λ r. ⌜ r ≡ holds (coded code) byte ⌝ }
+{
+    code == byte as u16
 }
 
 // The first `count` codes become what both rows have in common.

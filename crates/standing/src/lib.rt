@@ -4,8 +4,10 @@ mod standing;
 
 pub use codes::all_within;
 pub use codes::both_codes;
+pub use codes::holds;
 pub use codes::join_first;
 pub use standing::Standing;
 pub use standing::both_hold;
 pub use standing::both_standing;
+pub use standing::is_known;
 pub use standing::within;

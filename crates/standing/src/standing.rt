@@ -3,6 +3,7 @@ ghost use mathlib.Core.Path.{_≡_};
 ghost use mathlib.Core.Bool.{_&&_};
 ghost use Rattle.knowing.specs.Standing.{Within};
 ghost use Rattle.knowing.specs.Know.{join};
+ghost use Rattle.knowing.specs.Holds.{isKnown};
 ghost use Rattle.standing.specs.View.{stands, Tests};
 
 // Known, with its value's number, or unknown.
@@ -27,6 +28,16 @@ pub fn both_standing(a: Standing, b: Standing) -> Standing
             Standing::Unknown => Standing::Unknown,
         },
         Standing::Unknown => Standing::Unknown,
+    }
+}
+
+// The fact is known to be v.
+pub fn is_known(s: Standing, v: u8) -> bool
+    ensures { λ r. ⌜ r ≡ isKnown (stands s) v ⌝ }
+{
+    match s {
+        Standing::Known(w) => w == v,
+        Standing::Unknown => false,
     }
 }
 
