@@ -8,7 +8,7 @@ ghost use Rattle.terms.specs.declared.Event.the-variants.{ByteIn};
 ghost use Rattle.terms.specs.Event.{recording, strobe};
 
 // One byte at its place; the next place.
-fn put(out: &mut [u8], at: usize, byte: u8) -> usize
+pub fn put(out: &mut [u8], at: usize, byte: u8) -> usize
     requires { ⌜ at < length (now out) ⌝ }
     ensures { λ r. ⌜ (r ≡ at + 1) × (now (out .exit) ≡ set (now (out .entry)) at byte) ⌝ }
 {
@@ -17,7 +17,7 @@ fn put(out: &mut [u8], at: usize, byte: u8) -> usize
 }
 
 // One whole byte clocked in.
-fn byte_in(out: &mut [u8], at: usize, byte: u8) -> usize
+pub fn byte_in(out: &mut [u8], at: usize, byte: u8) -> usize
     requires { ⌜ at + 2 ≤ length (now out) ⌝ }
     ensures { λ r. ⌜ (r ≡ at + 2) × (now (out .exit) ≡ sets (now (out .entry)) at (3 ∷ byte ∷ [])) ⌝ }
 {

@@ -1,0 +1,9 @@
+pub mod Runs
+pub mod Walk
+pub mod Linear
+pub mod Right
+pub mod Front
+pub mod Count
+pub mod Survey
+pub mod Written
+pub mod Longest

@@ -1,0 +1,59 @@
+// What is counted of cells around a ring, one by one, and what is found behind the last.
+use standing::holds;
+ghost use mathlib.Core.Path.{_≡_};
+ghost use mathlib.Core.Bool.{not, _&&_};
+ghost use Prim.Native.Nat.{_+_, _<_};
+ghost use lib.Dec.{eqb};
+ghost use Rattle.rules.specs.Choice.{whether};
+ghost use Rattle.knowing.specs.Holds.{holds};
+ghost use Rattle.standing.specs.View.{coded};
+
+// How many cells differ, in how many runs, and the front: how many cells from 00H on end a run that goes round.
+pub struct Survey {
+    pub cells: usize,
+    pub runs: usize,
+    pub front: usize,
+}
+
+// The cell is not known to hold its wanted byte.
+pub fn differs(code: u16, byte: u8) -> bool
+    ensures { λ r. ⌜ r ≡ not (holds (coded code) byte) ⌝ }
+{
+    !holds(code, byte)
+}
+
+pub fn counted(count: usize, one: bool) -> usize
+    requires { ⌜ count < 64 ⌝ }
+    ensures { λ r. ⌜ r ≡ count + whether one 1 0 ⌝ }
+{
+    if one { count + 1 } else { count }
+}
+
+// The cell differs, and the one before it does not.
+pub fn begins(here: bool, last: bool) -> bool
+    ensures { λ r. ⌜ r ≡ (here && not last) ⌝ }
+{
+    if here { !last } else { false }
+}
+
+// The cell differs, and so do all before it.
+pub fn leads(here: bool, lead: usize, i: usize) -> bool
+    ensures { λ r. ⌜ r ≡ (eqb lead i && here) ⌝ }
+{
+    if lead == i { here } else { false }
+}
+
+// Where all differ they are one run, from 00H; else a run that goes round ends with those that lead.
+pub fn found(n: usize, cells: usize, runs: usize, lead: usize, last: bool) -> Survey
+    ensures { λ r. ⌜ r ≡ whether (eqb cells n) (record { cells = cells; runs = 1; front = 0 }) (record { cells = cells; runs = runs; front = whether last lead 0 }) ⌝ }
+{
+    if cells == n {
+        return Survey {
+            cells,
+            runs: 1,
+            front: 0,
+        };
+    }
+    let front = if last { lead } else { 0 };
+    Survey { cells, runs, front }
+}
