@@ -25,6 +25,12 @@ unfolding sizes
 room Pt6312 = omega arith
 room Pt6315 = omega arith
 
+-- And it has cells.
+pub some-cells : (p : Family) → 0 < sizes p .cells
+unfolding sizes
+some-cells Pt6312 = omega arith
+some-cells Pt6315 = omega arith
+
 -- What holds of each fact holds of all.
 pub every : (P : Fact → Type 0) → ((i : ℕ) → P (cell i)) → P address → P dataMode → P stepping → P mode → P dimming → P display → P led
     → ((i : ℕ) → P (key i)) → P switches → P readCount → P position → (f : Fact) → P f

@@ -1,0 +1,5 @@
+pub mod Update
+pub mod Updated
+pub mod Answer
+pub mod Unique
+pub mod Longest

@@ -1,0 +1,54 @@
+-- Two answers of an update that meet its promise are equal. The argument: number, place and count fix the answer, the output is told byte for byte, and
+-- what is refused or sent goes by the same conditions for both.
+use Prim.Native.Nat.{ℕ, zero, suc}
+use mathlib.Core.Path.{_≡_, refl, sym, _∙_}
+use mathlib.Core.List.{List}
+use Rattle.rules.specs.Where.{where-both}
+use Rattle.terms.specs.declared.Place.{Place}
+use Rattle.terms.specs.declared.Part.the-variants.{Pt6302, Pt6312, Pt6315}
+use Rattle.terms.specs.declared.PartRead.{PartRead}
+use Rattle.terms.specs.declared.PartRead.the-variants.{Is, Refused}
+use Rattle.segment.specs.declared.chip.Family.{Family}
+use Rattle.segment.specs.declared.chip.Family.the-variants as OfFamily
+use Rattle.segment_knowledge.specs.declared.knowledge.Knowledge.{Knowledge}
+use Rattle.panel.specs.declared.knowledge.Panel.{Panel}
+use Rattle.updating.specs.declared.Updated.{Updated}
+use Rattle.updating.specs.declared.Updated.the-variants.{Done, NoPart, OutOfRange, TooSmall}
+use Rattle.updating.specs.Answer.{number, place, count, RefusedBy, Sent, UpdatesSegment, Updates}
+
+-- The answer with a number, a place and a count, and that every answer is the one with its own.
+back : ℕ → Place → ℕ → Updated
+back zero at n = Done at n
+back (suc zero) at n = NoPart at
+back (suc (suc zero)) at n = OutOfRange at
+back (suc (suc (suc m))) at n = TooSmall at
+
+read-back : (r : Updated) → back (number r) (record { 0 = place r }) (count r) ≡ r
+unfolding back
+read-back (Done at n) = refl
+read-back (NoPart at) = refl
+read-back (OutOfRange at) = refl
+read-back (TooSmall at) = refl
+
+same-updated : (r q : Updated) → number r ≡ number q → place r ≡ place q → count r ≡ count q → r ≡ q
+same-updated r q n p c = sym (read-back r) ∙ (λ i. back (n i) (record { 0 = p i }) (c i)) ∙ read-back q
+
+module _ (out : List ℕ) (r q : Updated) (after after′ : List ℕ) where
+  one-refusal : (n : ℕ) → RefusedBy n out r after → RefusedBy n out q after′ → (r ≡ q) × (after ≡ after′)
+  one-refusal n h g =
+      (same-updated r q (h .numbered ∙ sym (g .numbered)) (h .placed ∙ sym (g .placed)) (h .counted ∙ sym (g .counted)), h .kept ∙ sym (g .kept))
+
+  one-sent : (stream : List ℕ) (n : ℕ) → Sent stream n out r after → Sent stream n out q after′ → (r ≡ q) × (after ≡ after′)
+  one-sent stream n h g =
+      (same-updated r q (h .numbered ∙ sym (g .numbered)) (h .placed ∙ sym (g .placed)) (h .counted ∙ sym (g .counted)), h .wrote ∙ sym (g .wrote))
+
+  one-segment : (f : Family) (k : Knowledge) (w : List ℕ) → UpdatesSegment f k w out r after → UpdatesSegment f k w out q after′ → (r ≡ q) × (after ≡ after′)
+  one-segment f k w h g = where-both (where-both (one-sent _ _) (one-refusal 10)) (one-refusal 2) h g
+
+-- Two answers of one update are one, and so are the outputs.
+pub one-update : (part : PartRead) (k : Panel) (w out : List ℕ) (r q : Updated) (after after′ : List ℕ) → Updates part k w out r after → Updates part k w out q after′
+    → (r ≡ q) × (after ≡ after′)
+one-update (Is Pt6302) k w out r q after after′ h g = one-refusal out r q after after′ 1 h g
+one-update (Is Pt6312) k w out r q after after′ h g = one-segment out r q after after′ OfFamily.Pt6312 (k .segment) w h g
+one-update (Is Pt6315) k w out r q after after′ h g = one-segment out r q after after′ OfFamily.Pt6315 (k .segment) w h g
+one-update (Refused at) k w out r q after after′ h g = one-refusal out r q after after′ 1 h g
