@@ -12,7 +12,7 @@ fill d unknown = d
 abbrev pub filled : {F : Type 0} → ℕ → (F → Standing) → F → ℕ
 filled d k f = fill d (k f)
 
-agrees : (d : ℕ) (s : Standing) → Agrees s (fill d s)
+pub agrees : (d : ℕ) (s : Standing) → Agrees s (fill d s)
 agrees d (known v) = refl
 agrees d unknown = tt
 

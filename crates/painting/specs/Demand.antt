@@ -15,7 +15,7 @@ use Rattle.painting.specs.Picture.{Shaped, PictureInRange, eventsFor, pa
 use Rattle.painting.specs.SegmentLeads as SegmentLeads
 use Rattle.painting.specs.CharacterLeads as CharacterLeads
 
-surely-one : {F : Type 0} (range : F → ℕ) (rules : List (Rule F F)) (c x : F → ℕ) → Surely rules c x → OneEnd range rules c x
+pub surely-one : {F : Type 0} (range : F → ℕ) (rules : List (Rule F F)) (c x : F → ℕ) → Surely rules c x → OneEnd range rules c x
 surely-one range rules c x h = record { leads = surely-ends range rules c x h; only = λ y e. surely-only range rules c x y h e }
 
 surely : (p : Part) (pic : Picture) → Shaped pic → PictureInRange p pic → (c : Fact p → ℕ) → Surely (map (move p) (eventsFor p pic)) c (paintedBy p pic c)

@@ -40,35 +40,47 @@ use Rattle.segment.specs.Laws.{every, cells-apart}
 use Rattle.painting.specs.declared.SegmentPicture.{SegmentPicture}
 use Rattle.painting.specs.Segment.{InRanges, control, painting, painted}
 
-abbrev Chip : Type 0
+abbrev pub Chip : Type 0
 Chip = Fact → ℕ
 
-abbrev put′ : Fact → ℕ → Chip → Chip
+abbrev pub put′ : Fact → ℕ → Chip → Chip
 put′ g v c = put same? g v c
 
 -- What a part's sizes must be for the painting's bytes to be read as they are meant.
 pub record Paintable (s : Sizes) : Type 0 where
   pub mode-read : (m : ℕ) → m < suc (s .top) → commandOf s m ≡ Mode m
-  pub start-read : commandOf s 0xC0 ≡ Start (At (record { 0 = 0 }))
+  pub start-read : (i : ℕ) → i < s .cells → commandOf s (0xC0 + i) ≡ Start (At (record { 0 = i }))
   pub some : 0 < s .cells
   pub room : s .cells ≤ 36
 
 pub paintable : (q : Family) → Paintable (sizes q)
 unfolding sizes
-paintable Pt6312 = record { mode-read = small; start-read = refl; some = omega arith; room = omega arith }
+paintable Pt6312 = record { mode-read = small; start-read = starts; some = omega arith; room = omega arith }
   where
     small : (m : ℕ) → m < 8 → commandOf (sizes Pt6312) m ≡ Mode m
     small m h =
         let top : m / 64 ≡ 0 = omega arith in
         let low : min (m % 8) 7 ≡ m = omega arith in
         rw (top, low)
-paintable Pt6315 = record { mode-read = small; start-read = refl; some = omega arith; room = omega arith }
+
+    starts : (i : ℕ) → i < 22 → commandOf (sizes Pt6312) (0xC0 + i) ≡ Start (At (record { 0 = i }))
+    starts i h =
+        let top : (0xC0 + i) / 64 ≡ 3 = omega arith in
+        let low : (0xC0 + i) % 32 ≡ i = omega arith in
+        rw (top, low, lt-ltb i 22 h)
+paintable Pt6315 = record { mode-read = small; start-read = starts; some = omega arith; room = omega arith }
   where
     small : (m : ℕ) → m < 9 → commandOf (sizes Pt6315) m ≡ Mode m
     small m h =
         let top : m / 64 ≡ 0 = omega arith in
         let low : min (m % 16) 8 ≡ m = omega arith in
         rw (top, low)
+
+    starts : (i : ℕ) → i < 36 → commandOf (sizes Pt6315) (0xC0 + i) ≡ Start (At (record { 0 = i }))
+    starts i h =
+        let top : (0xC0 + i) / 64 ≡ 3 = omega arith in
+        let low : (0xC0 + i) % 64 ≡ i = omega arith in
+        rw (top, low, lt-ltb i 36 h)
 
 control-read : (s : Sizes) (o : Display) (d : ℕ) → d < 8 → commandOf s (0x80 + shows o * 8 + d) ≡ Control d o
 control-read s Off d h =
@@ -84,14 +96,14 @@ control-read s On d h =
 
 module _ (s : Sizes) where
   -- The strobe falls, whatever stood before; at the end it rises.
-  falls : (c : Chip) (f : Fact) → run (move s Falls) c f ≡ becomes (put′ position 1 c f)
+  pub falls : (c : Chip) (f : Fact) → run (move s Falls) c f ≡ becomes (put′ position 1 c f)
   falls c f = change-put same? c c position 1 keep f refl
 
-  rises : (c : Chip) (f : Fact) → run (move s Rises) c f ≡ becomes (put′ position 0 c f)
+  pub rises : (c : Chip) (f : Fact) → run (move s Rises) c f ≡ becomes (put′ position 0 c f)
   rises c f = change-put same? c c position 0 keep f refl
 
   -- A first byte that is read as the command k.
-  first : (b : ℕ) (k : Command) (c y : Chip) → commandOf s b ≡ k → ((f : Fact) → run (commanded k) (put′ position 1 c) f ≡ becomes (y f))
+  pub first : (b : ℕ) (k : Command) (c y : Chip) → commandOf s b ≡ k → ((f : Fact) → run (commanded k) (put′ position 1 c) f ≡ becomes (y f))
       → (f : Fact) → run (move s (ByteIn b)) (put′ position 1 c) f ≡ becomes (y f)
   first b k c y e h f = subst⁻¹ (λ (m : Command). run (commanded m) (put′ position 1 c) f ≡ becomes (y f)) e (h f)
 
@@ -112,21 +124,21 @@ module _ (s : Sizes) where
       subst⁻¹ (λ (t : Bool). (f : Fact) → run (whether t (gives (then Ignoring)) (gives (sets mode m (sets display 0 (then Ignoring))))) c f ≡ becomes (in-mode m false c f)) e
       (every _ (λ i. refl) refl refl refl refl refl refl refl (λ i. refl) refl refl refl)
 
-  -- A data setting, the start of the cells, and the control byte.
-  abbrev in-setting : ℕ → Chip → Chip
+  -- A data setting, the start at a cell, and the control byte.
+  abbrev pub in-setting : ℕ → Chip → Chip
   in-setting d c = put′ dataMode d (put′ stepping 0 (put′ readCount 0 (put′ position 2 c)))
 
-  display-set : (c : Chip) (f : Fact) → run (commanded (Setting WriteDisplay Increment)) c f ≡ becomes (in-setting 0 c f)
+  pub display-set : (c : Chip) (f : Fact) → run (commanded (Setting WriteDisplay Increment)) c f ≡ becomes (in-setting 0 c f)
   display-set c = every _ (λ i. refl) refl refl refl refl refl refl refl (λ i. refl) refl refl refl
 
   led-set : (c : Chip) (f : Fact) → run (commanded (Setting WriteLed Increment)) c f ≡ becomes (in-setting 1 c f)
   led-set c = every _ (λ i. refl) refl refl refl refl refl refl refl (λ i. refl) refl refl refl
 
-  abbrev at-start : Chip → Chip
-  at-start c = put′ address 1 (put′ position 2 c)
+  abbrev pub at-start : ℕ → Chip → Chip
+  at-start i c = put′ address (suc i) (put′ position 2 c)
 
-  started : (c : Chip) (f : Fact) → run (commanded (Start (At (record { 0 = 0 })))) c f ≡ becomes (at-start c f)
-  started c = every _ (λ i. refl) refl refl refl refl refl refl refl (λ i. refl) refl refl refl
+  pub started : (i : ℕ) (c : Chip) (f : Fact) → run (commanded (Start (At (record { 0 = i })))) c f ≡ becomes (at-start i c f)
+  started i c = every _ (λ i. refl) refl refl refl refl refl refl refl (λ i. refl) refl refl refl
 
   abbrev under-control : ℕ → Display → Chip → Chip
   under-control d o c = put′ dimming d (put′ display (shows o) (put′ position 3 c))
@@ -160,18 +172,17 @@ module _ (s : Sizes) where
   abbrev At-cell : ℕ → Chip → Type 0
   At-cell i c = c address ≡ to-cell i
 
-  cell-moves : (i b : ℕ) (c : Chip) → i < s .cells → c position ≡ 2 → c dataMode ≡ 0 → c stepping ≡ 0 → At-cell i c
-      → (f : Fact) → run (move s (ByteIn b)) c f ≡ becomes (count-to (suc i) (put′ (cell i) b c) f)
+  -- A byte is stored at cell i, and the address steps on.
+  pub cell-moves : (i b : ℕ) (c : Chip) → i < s .cells → c position ≡ 2 → c dataMode ≡ 0 → c stepping ≡ 0 → c address ≡ suc i
+      → (f : Fact) → run (move s (ByteIn b)) c f ≡ becomes (put′ address (pointer (after s i)) (put′ (cell i) b c) f)
   cell-moves i b c h q d n a f =
-      let valid : to-cell i ≡ suc i = rw (lt-ltb i (s .cells) h) refl in
       says-by-value (byteIn s b) c f _ (c position) 2 q
       (says-by-value (written s b) c f _ (c dataMode) 0 d
-      (says-by-value (stored s b) c f _ (c address) (suc i) (a ∙ valid)
+      (says-by-value (stored s b) c f _ (c address) (suc i) a
       (rw (lt-ltb i (s .cells) h)
       (says-by-value (storedAt s b i) c f _ (c stepping) 0 n
-      (rw (← add-one i)
       (change-put same? c (put′ (cell i) b c) address (pointer (after s i)) (sets (cell i) b keep) f
-      (change-put same? c c (cell i) b keep f refl)))))))
+      (change-put same? c c (cell i) b keep f refl))))))
 
   -- The cells are a row, where the chip is open, writes the display and increments.
   cell-row : (base : Chip) → base position ≡ 2 → base dataMode ≡ 0 → base stepping ≡ 0
@@ -182,29 +193,31 @@ module _ (s : Sizes) where
     counted = λ k c. refl;
     spares = λ k c. every _ (λ j e. refl) (λ e. absurd (true≢false e)) (λ e. refl) (λ e. refl) (λ e. refl) (λ e. refl) (λ e. refl) (λ e. refl) (λ j e. refl) (λ e. refl) (λ e. refl) (λ e. refl);
     spares-row = λ k c j. refl;
-    stores = λ i b c h p. cell-moves i b c h (p .rest position refl ∙ q) (p .rest dataMode refl ∙ d) (p .rest stepping refl ∙ n) (p .counts);
+    stores = λ i b c h p f.
+        let valid : to-cell i ≡ suc i = rw (lt-ltb i (s .cells) h) refl in
+        rw (← add-one i) (cell-moves i b c h (p .rest position refl ∙ q) (p .rest dataMode refl ∙ d) (p .rest stepping refl ∙ n) (p .counts ∙ valid) f);
   }
 
 module _ (s : Sizes) (ok : Paintable s) where
   -- A whole strobe of cells, from a chip that is set to write the display and increment.
   over-cells : (bs : List ℕ) (c : Chip) → length bs ≤ s .cells → c dataMode ≡ 0 → c stepping ≡ 0
-      → Walked cell (λ b. move s (ByteIn b)) (λ b. b) (Next walked (At-cell s) (at-start s (put′ position 1 c))) 0 bs (at-start s (put′ position 1 c))
+      → Walked cell (λ b. move s (ByteIn b)) (λ b. b) (Next walked (At-cell s) (at-start s 0 (put′ position 1 c))) 0 bs (at-start s 0 (put′ position 1 c))
   over-cells bs c h d i =
-      walk-row same? cell (λ b. move s (ByteIn b)) (λ b. b) (s .cells) walked (count-to s) (At-cell s) (at-start s (put′ position 1 c))
-      (cell-row s (at-start s (put′ position 1 c)) refl d i) bs h (rw (lt-ltb 0 (s .cells) (ok .some)) refl)
+      walk-row same? cell (λ b. move s (ByteIn b)) (λ b. b) (s .cells) walked (count-to s) (At-cell s) (at-start s 0 (put′ position 1 c))
+      (cell-row s (at-start s 0 (put′ position 1 c)) refl d i) bs h (rw (lt-ltb 0 (s .cells) (ok .some)) refl)
 
   cells-lead : (bs : List ℕ) (c : Chip) (h : length bs ≤ s .cells) (d : c dataMode ≡ 0) (i : c stepping ≡ 0)
       → Leads (move s) (strobe (0xC0 ∷ bs)) c (put′ position 0 (over-cells bs c h d i .chip))
   cells-lead bs c h d i =
       let w = over-cells bs c h d i in
-      let base = at-start s (put′ position 1 c) in
+      let base = at-start s 0 (put′ position 1 c) in
       let bytes : Leads (move s) (map ByteIn bs) base (w .chip) =
       subst⁻¹ (λ (rs : List (Rule Fact Fact)). Surely rs base (w .chip)) (map-map (move s) ByteIn bs) (w .moves) in (
         put′ position 1 c,
         falls s c,
         (
           base,
-          first s 0xC0 (Start (At (record { 0 = 0 }))) c base (ok .start-read) (started s (put′ position 1 c)),
+          first s 0xC0 (Start (At (record { 0 = 0 }))) c base (ok .start-read 0 (ok .some)) (started s 0 (put′ position 1 c)),
           leads-append (move s) (map ByteIn bs) (Rises ∷ []) base (w .chip) (put′ position 0 (w .chip)) bytes
               (put′ position 0 (w .chip), rises s (w .chip), λ f. refl),
         ),
@@ -247,7 +260,7 @@ module _ (s : Sizes) (ok : Paintable s) (p : SegmentPicture) (fits : InRanges s 
   abbrev c₂ : Chip
   c₂ = put′ position 0 (in-setting s 0 (put′ position 1 c₁))
 
-  w : Walked cell (λ b. move s (ByteIn b)) (λ b. b) (Next walked (At-cell s) (at-start s (put′ position 1 c₂))) 0 bytes (at-start s (put′ position 1 c₂))
+  w : Walked cell (λ b. move s (ByteIn b)) (λ b. b) (Next walked (At-cell s) (at-start s 0 (put′ position 1 c₂))) 0 bytes (at-start s 0 (put′ position 1 c₂))
   w = over-cells s ok bytes c₂ (omega (arith, all-cells)) refl refl
 
   abbrev c₃ : Chip

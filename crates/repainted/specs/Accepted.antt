@@ -67,18 +67,18 @@ pub accepted : (p : Part) (es : List Event) → Each (Recordable p) es → Accep
 accepted p es h = reads es (length (recording es)) p 0 h (omega arith)
 
 -- Every part has each of the events, with any body.
-record Free (es : List Event) : Type 0 where
-  each : (p : Part) → Each (Recordable p) es
+pub record Free (es : List Event) : Type 0 where
+  pub each : (p : Part) → Each (Recordable p) es
 
 -- A strobe is free, and so is what follows it.
-strobed : {es : List Event} (bs : List ℕ) → Free es → Free (strobe bs ++ es)
+pub strobed : {es : List Event} (bs : List ℕ) → Free es → Free (strobe bs ++ es)
 strobed {es} bs h = record { each = λ p. (refl, bytes p bs) }
   where
     bytes : (p : Part) (l : List ℕ) → Each (Recordable p) ((map ByteIn l ++ (Rises ∷ [])) ++ es)
     bytes p [] = (refl, h .each p)
     bytes p (b ∷ l) = (refl, bytes p l)
 
-none : Free []
+pub none : Free []
 none = record { each = λ p. tt }
 
 -- A painting is accepted, whichever part reads it.

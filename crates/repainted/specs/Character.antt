@@ -2,14 +2,13 @@
 -- fall, so that its first byte is known to be a command; the command sets the position, and the address of the RAM
 -- whose bytes follow, so that each of these looks at what is known too. So the knowledge goes as every chip goes, and
 -- every chip ends painted.
-use Prim.Native.Nat.{ℕ, _+_, _*_, _/_, _%_, _<_}
+use Prim.Native.Nat.{ℕ, _+_, _*_, _/_, _%_}
 use native.Mathlib.Omega.{arith}
 use mathlib.Core.Path.{_≡_, refl, _∙_}
 use mathlib.Core.List.{List, [], _∷_, _++_, map}
-use lib.ListN.{length, getD}
+use lib.ListN.{length}
 use lib.Dec.{ltb, eqb}
-use borrow.Author.Tests.{lt-ltb}
-use Rattle.rules.specs.Choice.{whether, whether-all}
+use Rattle.rules.specs.Choice.{whether-all}
 use Rattle.rules.specs.Rule.{Rule, gives, look}
 use Rattle.rules.specs.Change.{keep}
 use Rattle.rules.specs.Touch.{AllSettle, keep-settles}
@@ -25,8 +24,7 @@ use Rattle.terms.specs.Event.{strobe}
 use Rattle.character.specs.Fact.{Fact, same?, range, dcram, cgram, adram, dcramAt, cgramAt, adramAt, column, port, duty, digits, lights, position}
 use Rattle.character.specs.declared.chip.Lights.{Lights}
 use Rattle.character.specs.declared.chip.Lights.the-variants.{Normal, Off, On}
-use Rattle.character.specs.declared.chip.Position.the-variants.{Idle}
-use Rattle.character.specs.Value.{lit, at-position}
+use Rattle.character.specs.Value.{lit}
 use Rattle.character.specs.Command.{commandOf, Defined}
 use Rattle.character.specs.Move.{Forms, sets, commanded, drawn, byteIn, move}
 use Rattle.character.specs.Laws.{every}
@@ -55,8 +53,8 @@ set b h rest = single bus (λ _. Unit) b (commanded (commandOf b)) refl (λ f. s
 over : {es : List Event} (q : ℕ) (I : Knowledge → Type 0) (b : ℕ) (bs : List ℕ) → Defined (commandOf b) → ((k : Knowledge) → I k → k position ≡ known q)
     → ((k : Knowledge) → I (begun bus (commanded (commandOf b)) k)) → ((v : ℕ) (k : Knowledge) → I k → Into (byteIn v q) k I) → Always bus es → Always bus (strobe (b ∷ bs) ++ es)
 over q I b bs h there begins each rest =
-    row bus I b bs (commanded (commandOf b)) refl (λ f. settled (ByteIn b) h f 1) (λ k _. begins k)
-    (λ v k i. comes-by same? range position (byteIn v) k I q (there k i) (each v k i)) rest
+    row bus (λ _. Unit) I b bs (commanded (commandOf b)) refl (λ f. settled (ByteIn b) h f 1) (λ k _. begins k)
+    (λ v k i. comes-by same? range position (byteIn v) k I q (there k i) (each v k i)) (λ k _. tt) rest
 
 kept : AllSettle same? keep
 kept = keep-settles same?

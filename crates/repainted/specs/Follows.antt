@@ -31,9 +31,9 @@ pub set-settles : {F : Type 0} (same? : Discrete F) (g : F) (v : ℕ) (φ : F �
 set-settles same? g v φ h = change-settles same? g (value v) φ refl h
 
 -- A number is filled in on either side of a choice.
-pub filled-where : (d : ℕ) (t : Bool) (v : ℕ) (s : Standing) → whether t v (fill d s) ≡ fill d (whether t (known v) s)
-filled-where d true v s = refl
-filled-where d false v s = refl
+pub filled-where : (d : ℕ) (t : Bool) (r s : Standing) → whether t (fill d r) (fill d s) ≡ fill d (whether t r s)
+filled-where d true r s = refl
+filled-where d false r s = refl
 
 module _ {F : Type 0} (same? : Discrete F) (range : F → ℕ) where
   -- The chip that has d wherever k does not know becomes the chip that has d wherever nothing is known afterwards,

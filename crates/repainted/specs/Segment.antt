@@ -9,7 +9,7 @@ use mathlib.Core.Path.{_≡_, refl, sym, ap, _∙_}
 use mathlib.Core.List.{List, [], _∷_, _++_, map}
 use lib.ListN.{length, getD, take}
 use lib.Dec.{ltb, eqb}
-use borrow.Author.Tests.{lt-ltb, eqb-true, eq-eqb}
+use borrow.Author.Tests.{eqb-true, eq-eqb}
 use Rattle.rules.specs.Choice.{whether, whether-all}
 use Rattle.rules.specs.Rule.{Rule, gives, look, becomes, run}
 use Rattle.rules.specs.Change.{keep}
@@ -31,14 +31,12 @@ use Rattle.segment.specs.declared.chip.Family.{Family}
 use Rattle.segment.specs.declared.chip.Sizes.{Sizes}
 use Rattle.segment.specs.declared.chip.Display.{Display}
 use Rattle.segment.specs.declared.chip.Display.the-variants.{Off, On}
-use Rattle.segment.specs.declared.chip.Data.the-variants.{WriteLed}
-use Rattle.segment.specs.declared.chip.Stepping.the-variants.{Increment}
 use Rattle.segment.specs.declared.chip.Position.{Position}
-use Rattle.segment.specs.declared.chip.Position.the-variants.{Idle, Open, Ignoring}
+use Rattle.segment.specs.declared.chip.Position.the-variants.{Open, Ignoring}
 use Rattle.segment.specs.declared.command.Command.the-variants.{Mode}
 use Rattle.segment.specs.Family.{sizes}
 use Rattle.segment.specs.Fact.{Fact, same?, range, cell, address, dataMode, stepping, mode, dimming, display, led, key, switches, readCount, position}
-use Rattle.segment.specs.Value.{pointer, data-mode, steps, shows, at-position}
+use Rattle.segment.specs.Value.{pointer, shows, at-position}
 use Rattle.segment.specs.Command.{commandOf, displayOf, pointerOf}
 use Rattle.segment.specs.Move.{Forms, sets, then, toMode, setting, after, storedAt, stored, written, byteIn, move}
 use Rattle.segment.specs.Laws.{every}
@@ -49,15 +47,15 @@ use Rattle.repainted.specs.Repainted.{segmentRepainted as repainted}
 use Rattle.repainted.specs.Follows.{Comes, comes, comes-by, set-settles, known-at-end, one-end, filled-where}
 use Rattle.repainted.specs.Strobe.{Bus, Always, no-more, at, rose, single, row}
 
-abbrev Knowledge : Type 0
+abbrev pub Knowledge : Type 0
 Knowledge = Fact → Standing
 
 -- The data setting is that of 40H.
-abbrev Set : Knowledge → Type 0
+abbrev pub Set : Knowledge → Type 0
 Set k = (k dataMode ≡ known 0) × (k stepping ≡ known 0)
 
 -- All is known that a byte for the cells looks at.
-abbrev Writing : Knowledge → Type 0
+abbrev pub Writing : Knowledge → Type 0
 Writing k = (k position ≡ known 2) × (k dataMode ≡ known 0) × (k stepping ≡ known 0) × IsKnown (k address)
 
 -- All is known that a byte for the LED looks at.
@@ -67,10 +65,10 @@ Lighting k = (k position ≡ known 2) × (k dataMode ≡ known 1)
 kept : AllSettle same? keep
 kept = keep-settles same?
 
-then-settles : (q : Position) → AllSettle same? (then q)
+pub then-settles : (q : Position) → AllSettle same? (then q)
 then-settles q = set-settles same? position (at-position q) keep kept
 
-setting-settles : (d : ℕ) → AllSettle same? (sets dataMode d (setting 0))
+pub setting-settles : (d : ℕ) → AllSettle same? (sets dataMode d (setting 0))
 setting-settles d = set-settles same? dataMode d _ (set-settles same? stepping 0 _ (set-settles same? readCount 0 _ (then-settles Open)))
 
 -- The control byte is one of display control.
@@ -83,7 +81,7 @@ abbrev four : Sizes → SegmentPicture → List Event
 four s p = strobe (0x40 ∷ []) ++ (strobe (0xC0 ∷ take (s .cells) (p .cells)) ++ (strobe (0x41 ∷ p .led ∷ []) ++ strobe (control p ∷ [])))
 
 module _ (s : Sizes) where
-  abbrev bus : Bus Fact
+  abbrev pub bus : Bus Fact
   bus = record { same? = same?; range = range s; move = move s; position = position; byteIn = byteIn s; falls = refl; bytes = λ b. refl; rises = refl }
 
   abbrev Into : Rule Fact Fact → Knowledge → (Knowledge → Type 0) → Type 0
@@ -105,15 +103,20 @@ module _ (s : Sizes) where
       → Into (look position (byteIn s v)) k I
   open-byte I v d k q e c = comes-by same? (range s) position (byteIn s v) k I 2 q (comes-by same? (range s) dataMode (written s v) k I d e c)
 
+  -- A byte for the cells.
+  pub cell-byte : (v : ℕ) (k : Knowledge) → Writing k → Into (look position (byteIn s v)) k Writing
+  cell-byte v k w =
+      open-byte Writing v 0 k (w .0) (w .1)
+      (comes-by same? (range s) address (stored s v) k Writing (w .3 .0) (w .3 .1) (stored-byte v (w .3 .0) k w))
+
   four-follow : (p : SegmentPicture) → InRanges s p → Always bus (four s p)
   four-follow p fits =
       single bus Set 0x40 (sets dataMode 0 (setting 0)) refl (setting-settles 0) (λ k _. (refl, refl))
-      (row bus Writing 0xC0 (take (s .cells) (p .cells)) (sets address (pointer (pointerOf s 0xC0)) (then Open)) refl
+      (row bus (λ _. Unit) Writing 0xC0 (take (s .cells) (p .cells)) (sets address (pointer (pointerOf s 0xC0)) (then Open)) refl
       (set-settles same? address _ _ (then-settles Open)) (λ k h. (refl, h .0, h .1, (_, refl)))
-      (λ v k w. open-byte Writing v 0 k (w .0) (w .1)
-      (comes-by same? (range s) address (stored s v) k Writing (w .3 .0) (w .3 .1) (stored-byte v (w .3 .0) k w)))
-      (row bus Lighting 0x41 (p .led ∷ []) (sets dataMode 1 (setting 0)) refl (setting-settles 1) (λ k _. (refl, refl))
-      (λ v k w. open-byte Lighting v 1 k (w .0) (w .1) (comes same? (range s) (sets led (v % 16) keep) k Lighting (set-settles same? led _ keep kept) w))
+      cell-byte (λ k _. tt)
+      (row bus (λ _. Unit) Lighting 0x41 (p .led ∷ []) (sets dataMode 1 (setting 0)) refl (setting-settles 1) (λ k _. (refl, refl))
+      (λ v k w. open-byte Lighting v 1 k (w .0) (w .1) (comes same? (range s) (sets led (v % 16) keep) k Lighting (set-settles same? led _ keep kept) w)) (λ k _. tt)
       (single bus (λ _. Unit) (control p) (sets dimming (control p % 8) (sets display (shows (displayOf (control p))) (then Ignoring)))
       (rw (control-top (p .display) (p .dimming) (fits .dimming-in)) refl)
       (set-settles same? dimming _ _ (set-settles same? display _ _ (then-settles Ignoring))) (λ k _. tt) (no-more bus))))

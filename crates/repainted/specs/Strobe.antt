@@ -41,7 +41,7 @@ module _ {F : Type 0} (t : Bus F) where
   abbrev pub Always : List Event → Type 0
   Always es = From (λ _. Unit) es
 
-  pub no-more : Always []
+  pub no-more : {P : (F → Standing) → Type 0} → From P []
   no-more = record { from = λ k _. ends }
 
   -- Only the position changes.
@@ -75,11 +75,12 @@ module _ {F : Type 0} (t : Bus F) where
           comes-by (t .same?) (t .range) (t .position) (t .byteIn b) (at 1 k) I 1 (set-same (t .same?) k (t .position) 1 keep)
           (rw e (comes (t .same?) (t .range) φ (at 1 k) I s i))
 
-  -- A row of bytes, each of which leaves the knowledge such as I says, and the strobe rises.
-  over-bytes : {es : List Event} (I : (F → Standing) → Type 0) → ((v : ℕ) (k : F → Standing) → I k → Into (look (t .position) (t .byteIn v)) k I)
-      → Always es → (bs : List ℕ) (k : F → Standing) → I k → Along (map (t .move) ((map ByteIn bs ++ (Rises ∷ [])) ++ es)) k
-  over-bytes I each rest [] k i = rose (rest .from _ tt)
-  over-bytes I each rest (b ∷ bs) k i = rw (t .bytes b) (next (t .same?) (t .range) I (each b k i) (λ l j. over-bytes I each rest bs l j))
+  -- A row of bytes, each of which leaves the knowledge such as I says, and the strobe rises, which leaves it such as Q says.
+  over-bytes : {Q : (F → Standing) → Type 0} {es : List Event} (I : (F → Standing) → Type 0)
+      → ((v : ℕ) (k : F → Standing) → I k → Into (look (t .position) (t .byteIn v)) k I) → ((k : F → Standing) → I k → Q (at 0 k))
+      → From Q es → (bs : List ℕ) (k : F → Standing) → I k → Along (map (t .move) ((map ByteIn bs ++ (Rises ∷ [])) ++ es)) k
+  over-bytes I each then rest [] k i = rose (rest .from _ (then k i))
+  over-bytes I each then rest (b ∷ bs) k i = rw (t .bytes b) (next (t .same?) (t .range) I (each b k i) (λ l j. over-bytes I each then rest bs l j))
 
   -- A strobe with one byte.
   pub single : {P : (F → Standing) → Type 0} {es : List Event} (Q : (F → Standing) → Type 0) (b : ℕ) (φ : F → Form F) → t .byteIn b 1 ≡ gives φ → AllSettle (t .same?) φ
@@ -87,7 +88,7 @@ module _ {F : Type 0} (t : Bus F) where
   single Q b φ e s then rest = record { from = λ k p. opened b φ (λ l. Q (at 0 l)) k e s (then k p) (λ l q. rose (rest .from _ q)) }
 
   -- A strobe with a row of bytes behind its first.
-  pub row : {P : (F → Standing) → Type 0} {es : List Event} (I : (F → Standing) → Type 0) (b : ℕ) (bs : List ℕ) (φ : F → Form F) → t .byteIn b 1 ≡ gives φ
-      → AllSettle (t .same?) φ → ((k : F → Standing) → P k → I (begun φ k))
-      → ((v : ℕ) (k : F → Standing) → I k → Into (look (t .position) (t .byteIn v)) k I) → Always es → From P (strobe (b ∷ bs) ++ es)
-  row I b bs φ e s begins each rest = record { from = λ k p. opened b φ I k e s (begins k p) (over-bytes I each rest bs) }
+  pub row : {P : (F → Standing) → Type 0} {es : List Event} (Q I : (F → Standing) → Type 0) (b : ℕ) (bs : List ℕ) (φ : F → Form F) → t .byteIn b 1 ≡ gives φ
+      → AllSettle (t .same?) φ → ((k : F → Standing) → P k → I (begun φ k)) → ((v : ℕ) (k : F → Standing) → I k → Into (look (t .position) (t .byteIn v)) k I)
+      → ((k : F → Standing) → I k → Q (at 0 k)) → From Q es → From P (strobe (b ∷ bs) ++ es)
+  row Q I b bs φ e s begins each then rest = record { from = λ k p. opened b φ I k e s (begins k p) (over-bytes I each then rest bs) }

@@ -31,17 +31,23 @@ allowed : (n v : ℕ) (o : Outcome) → o ≡ becomes v → Allows n o v
 allowed n v o e = rw e refl
 
 module _ {F : Type 0} (range : F → ℕ) where
+  -- A move that says what becomes of every fact has that result, and no other.
+  pub sure-result : (r : Rule F F) (c y : F → ℕ) → ((f : F) → run r c f ≡ becomes (y f)) → Result range r c y
+  sure-result r c y h f = allowed (range f) (y f) (run r c f) (h f)
+
+  pub sure-only : (r : Rule F F) (c y z : F → ℕ) → ((f : F) → run r c f ≡ becomes (y f)) → Result range r c z → z ≡ y
+  sure-only r c y z h k = fun-ext (λ f. allows-one (range f) (y f) (z f) (run r c f) (h f) (k f))
+
   -- Where moves surely lead, they may lead.
   pub surely-ends : (rs : List (Rule F F)) (c x : F → ℕ) → Surely rs c x → Ends range rs c x
   surely-ends [] c x h = h
-  surely-ends (r ∷ rs) c x h = (h .0, λ f. allowed (range f) (h .0 f) (run r c f) (h .1 f), surely-ends rs (h .0) x (h .2))
+  surely-ends (r ∷ rs) c x h = (h .0, sure-result r c (h .0) (h .1), surely-ends rs (h .0) x (h .2))
 
   -- Where moves surely lead to one chip, they lead to no other.
   pub surely-only : (rs : List (Rule F F)) (c x z : F → ℕ) → Surely rs c x → Ends range rs c z → (f : F) → z f ≡ x f
   surely-only [] c x z h k = λ f. k f ∙ sym (h f)
   surely-only (r ∷ rs) c x z h k =
-      let same : k .0 ≡ h .0 = fun-ext (λ f. allows-one (range f) (h .0 f) (k .0 f) (run r c f) (h .1 f) (k .1 f)) in
-      surely-only rs (h .0) x z (h .2) (subst (λ (y : F → ℕ). Ends range rs y z) same (k .2))
+      surely-only rs (h .0) x z (h .2) (subst (λ (y : F → ℕ). Ends range rs y z) (sure-only r c (h .0) (k .0) (h .1) (k .1)) (k .2))
 
 -- Events in turn, where each event has its rule.
 abbrev pub Leads : {E F : Type 0} → (E → Rule F F) → List E → (F → ℕ) → (F → ℕ) → Type 0
