@@ -6,6 +6,7 @@ pub mod Append
 pub mod Gaps
 pub mod Tail
 pub mod Painting
+pub mod Update
 pub mod Met
 pub mod Packets
 pub mod InPackets

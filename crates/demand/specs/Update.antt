@@ -1,0 +1,185 @@
+-- The bytes of an update, from `update` to a chip and from `update` to `replay` (paper 02, M-102). The argument: where `update` answers number 0, what it wrote
+-- in front is the recording of the update's events, which is read back as these events (`updated/ByPart`); they lead every chip that fits to the updated one,
+-- and the knowledge to what is known then.
+use Prim.Native.Nat.{ℕ, _+_, _<_, _≤_}
+use native.Mathlib.Omega.{arith}
+use mathlib.Core.Path.{_≡_, sym, ap, _∙_, subst, subst⁻¹}
+use mathlib.Core.Bool.{true}
+use mathlib.Core.List.{List, [], _++_, map}
+use lib.ListN.{length, take, drop}
+use lib.Seq.{take-at}
+use Rattle.rules.specs.Choice.{whether}
+use Rattle.rules.specs.Where.{good, bad}
+use Rattle.knowing.specs.Standing.{Standing, Sound, Fits}
+use Rattle.knowing.specs.Turn.{inTurn}
+use Rattle.terms.specs.declared.Event.{Event}
+use Rattle.terms.specs.Event.{recording}
+use Rattle.terms.specs.Part.{partOf}
+use Rattle.terms.specs.declared.Part.{Part}
+use Rattle.terms.specs.declared.Part.the-variants.{Pt6302, Pt6312, Pt6315}
+use Rattle.terms.specs.declared.PartRead.{PartRead}
+use Rattle.terms.specs.declared.PartRead.the-variants.{Is}
+use Rattle.recording.specs.declared.ending.Ending.the-variants.{Done}
+use Rattle.recording.specs.Walk.{walked, events, endOf}
+use Rattle.segment.specs.declared.chip.Family.{Family}
+use Rattle.segment.specs.declared.chip.Family.the-variants as OfFamily
+use Rattle.segment.specs.Family.{sizes}
+use Rattle.segment.specs.Fact as Segment
+use Rattle.segment.specs.Laws.{every}
+use Rattle.segment_knowledge.specs.View.{kview}
+use Rattle.parts.specs.Facts.{Fact, same?, range, move}
+use Rattle.painting.specs.declared.Picture.{Picture}
+use Rattle.painting.specs.declared.SegmentPicture.{SegmentPicture}
+use Rattle.painting.specs.Segment.{painted}
+use Rattle.painting.specs.Picture.{paintedBy, OneEnd}
+use Rattle.painting.specs.Demand.{surely-one}
+use Rattle.panel.specs.declared.knowledge.Panel.{Panel}
+use Rattle.panel.specs.View.{knownOf, OtherKept}
+use Rattle.replay.specs.declared.replays.Replayed.{Replayed}
+use Rattle.answers.specs.Answer as Replay
+use Rattle.replay.specs.Replay.{PartDone, Replays}
+use Rattle.replay.specs.ByPart.{replays-by, accepts}
+use Rattle.whole.specs.Sentence.{IsMemory}
+use Rattle.runs.specs.Count.{bytesIn}
+use Rattle.updating.specs.declared.Updated.{Updated}
+use Rattle.updating.specs.Answer.{number, place, count, Sent, streamOf, countOf, UpdatesSegment, UpdatesPart, Updates}
+use Rattle.updating.specs.Longest.{most-bytes}
+use Rattle.updated.specs.ByPart.{HasRing, cellsOf, differsFor, differingFor, startsFor, settingFor, updateFor, updatedBy, knownFor, WrittenOn, counts, nothing-sent, leads, writes, knows, reads}
+use Rattle.updating.specs.Updated.{updated}
+use Rattle.updated.specs.Leads as Leads
+use Rattle.demand.specs.Recording.{eventsFrom}
+
+-- What an update that is answered by number 0 has written: the recording of its events, at the front.
+pub record Wrote (p : Part) (k : Panel) (w out : List ℕ) (r : Updated) (after : List ℕ) : Type 0 where
+  pub ring : HasRing p
+  pub sound : Sound (range p) (knownOf p k)
+  pub sent : Sent (recording (updateFor p (knownOf p k) w)) (length (differingFor p (knownOf p k) w) + length (startsFor p (knownOf p k) w) + whether (settingFor p (knownOf p k) w) 1 0) out r after
+  pub short : length (recording (updateFor p (knownOf p k) w)) ≤ 112
+
+of-segment : (q : Family) (k : Panel) (w out : List ℕ) (r : Updated) (after : List ℕ) → number r ≡ 0 → UpdatesSegment q (k .segment) w out r after
+    → Sound (Segment.range (sizes q)) (kview (k .segment)) × Sent (streamOf q (k .segment) w) (countOf q (k .segment) w) out r after
+of-segment q k w out r after z (good s (good f h)) = (s, h)
+of-segment q k w out r after z (good s (bad f h)) = absurd (omega (arith, h .numbered))
+of-segment q k w out r after z (bad s h) = absurd (omega (arith, h .numbered))
+
+wrote : (p : Part) (k : Panel) (w out : List ℕ) (r : Updated) (after : List ℕ) → number r ≡ 0 → UpdatesPart p k w out r after → Wrote p k w out r after
+wrote Pt6302 k w out r after z h = absurd (omega (arith, h .numbered))
+wrote Pt6312 k w out r after z h =
+    let s = of-segment OfFamily.Pt6312 k w out r after z h in
+    record { ring = tt; sound = s .0; sent = s .1; short = most-bytes OfFamily.Pt6312 (k .segment) w }
+wrote Pt6315 k w out r after z h =
+    let s = of-segment OfFamily.Pt6315 k w out r after z h in
+    record { ring = tt; sound = s .0; sent = s .1; short = most-bytes OfFamily.Pt6315 (k .segment) w }
+
+-- In an output of 112 bytes every update of what is in range is sent, whatever is wanted.
+sent-segment : (q : Family) (k : Panel) (w out : List ℕ) (r : Updated) (after : List ℕ) → Sound (Segment.range (sizes q)) (kview (k .segment)) → 112 ≤ length out
+    → UpdatesSegment q (k .segment) w out r after → number r ≡ 0
+sent-segment q k w out r after s l (good t (good f h)) = h .numbered
+sent-segment q k w out r after s l (good t (bad f h)) = absurd (f (let m = most-bytes q (k .segment) w in omega arith))
+sent-segment q k w out r after s l (bad t h) = absurd (t s)
+
+sent-part : (p : Part) → HasRing p → (k : Panel) (w out : List ℕ) (r : Updated) (after : List ℕ) → Sound (range p) (knownOf p k) → 112 ≤ length out
+    → UpdatesPart p k w out r after → number r ≡ 0
+sent-part Pt6302 x k w out r after s l h = absurd x
+sent-part Pt6312 x k w out r after s l h = sent-segment OfFamily.Pt6312 k w out r after s l h
+sent-part Pt6315 x k w out r after s l h = sent-segment OfFamily.Pt6315 k w out r after s l h
+
+by-part : (part : PartRead) (p : Part) → part ≡ Is p → (k : Panel) (w out : List ℕ) (r : Updated) (after : List ℕ) → Updates part k w out r after → UpdatesPart p k w out r after
+by-part part p e k w out r after h = subst (λ (x : PartRead). Updates x k w out r after) e h
+
+-- A part byte that names a part; the answer r and the output afterwards are what `update` promises.
+module _ (b : ℕ) (p : Part) (named : partOf b ≡ Is p) (k : Panel) (w out : List ℕ) (r : Updated) (after : List ℕ) (met : Updates (partOf b) k w out r after) where
+  -- That it is sent can always be had: for PT6312 and PT6315, from any knowledge in range, with 112 bytes.
+  pub update-answers : HasRing p → Sound (range p) (knownOf p k) → 112 ≤ length out → number r ≡ 0
+  update-answers x s l = sent-part p x k w out r after s l (by-part (partOf b) p named k w out r after met)
+
+  module _ (zero : number r ≡ 0) where
+    -- The bytes that `update` wrote: those before its place.
+    abbrev pub stream : List ℕ
+    stream = take (place r) after
+
+    done : Wrote p k w out r after
+    done = wrote p k w out r after zero (by-part (partOf b) p named k w out r after met)
+
+    stream-is : stream ≡ recording (updateFor p (knownOf p k) w)
+    stream-is = ap (take (place r)) (done .sent .wrote) ∙ take-at (recording (updateFor p (knownOf p k) w)) _ (place r) (sym (done .sent .placed))
+
+    read : (endOf (walked p stream) ≡ Done) × (events (walked p stream) ≡ updateFor p (knownOf p k) w)
+    read =
+        subst⁻¹ (λ (l : List ℕ). (endOf (walked p l) ≡ Done) × (events (walked p l) ≡ updateFor p (knownOf p k) w)) stream-is (reads p (done .ring) (knownOf p k) w)
+
+    -- "For every chip that fits, the memory ends as after a full painting": the bytes are records to their end, and their events lead every chip that fits, in
+    -- whatever state, to exactly one, the updated one.
+    pub update-brings : (endOf (walked p stream) ≡ Done)
+        × ((c : Fact p → ℕ) → Fits (knownOf p k) c → OneEnd (range p) (map (move p) (eventsFrom p 0 stream)) c (updatedBy p (knownOf p k) w c))
+    update-brings = (
+      read .0,
+      λ c f. subst⁻¹ (λ (es : List Event). OneEnd (range p) (map (move p) es) c (updatedBy p (knownOf p k) w c)) (read .1)
+          (surely-one (range p) (map (move p) (updateFor p (knownOf p k) w)) c (updatedBy p (knownOf p k) w c) (leads p (done .ring) (knownOf p k) w c f)),
+    )
+
+    -- "No equal, known cell is written": over the stream's events, the cells that are written are exactly those that differ.
+    pub update-writes : (c : Fact p → ℕ) → Fits (knownOf p k) c → (i : ℕ)
+        → (WrittenOn p (eventsFrom p 0 stream) c i → (i < cellsOf p) × (differsFor p (knownOf p k) w i ≡ true))
+        × (i < cellsOf p → differsFor p (knownOf p k) w i ≡ true → WrittenOn p (eventsFrom p 0 stream) c i)
+    update-writes c f i =
+        subst⁻¹ (λ (es : List Event). (WrittenOn p es c i → (i < cellsOf p) × (differsFor p (knownOf p k) w i ≡ true)) × (i < cellsOf p → differsFor p (knownOf p k) w i ≡ true → WrittenOn p es c i))
+        (read .1) (writes p (done .ring) (knownOf p k) w c f i)
+
+    -- "The count of wire bytes: cells plus runs, plus one for that 40H if it is sent": the number of 03 records of the stream.
+    pub update-counts : (count r ≡ length (differingFor p (knownOf p k) w) + length (startsFor p (knownOf p k) w) + whether (settingFor p (knownOf p k) w) 1 0)
+        × (count r ≡ bytesIn (eventsFrom p 0 stream))
+    update-counts = (done .sent .counted, done .sent .counted ∙ sym (ap bytesIn (read .1) ∙ counts p (done .ring) (knownOf p k) w))
+
+    -- The bytes that `update` wrote, replayed from what it went by: accepted, and then known is what `knownFor` says, every wanted cell among it.
+    pub update-replays : (q : Replayed) → Replays (partOf b) k stream 0 q
+        → (Replay.number (q .answer) ≡ 0) × (Replay.place (q .answer) ≡ place r)
+        × ((f : Fact p) → knownOf p (q .panel) f ≡ knownFor p (knownOf p k) w f) × OtherKept p k (q .panel)
+    update-replays q again =
+        let long : length stream ≡ length (recording (updateFor p (knownOf p k) w)) = ap length stream-is in
+        let few = done .short in
+        let d : PartDone p (eventsFrom p 0 stream) k stream q =
+        accepts p k stream 0 q (replays-by k stream 0 q (partOf b) p named again)
+        (record { in-range = done .sound; short = omega (arith, long, few); within = omega arith; ends = read .0 }) in (
+          d .numbered,
+          d .placed ∙ long ∙ sym (done .sent .placed),
+          λ f. d .known f
+              ∙ ap (λ (es : List Event). inTurn (same? p) (range p) (map (move p) es) (knownOf p k) f) (read .1)
+              ∙ knows p (done .ring) (knownOf p k) w f,
+          d .kept,
+        )
+
+    -- "Nothing to change emits nothing": the place and the count are 0, and the output is as it was.
+    pub update-nothing : differingFor p (knownOf p k) w ≡ [] → (place r ≡ 0) × (count r ≡ 0) × (after ≡ out)
+    update-nothing e =
+        let none : updateFor p (knownOf p k) w ≡ [] = nothing-sent p (done .ring) (knownOf p k) w e in (
+          done .sent .placed ∙ ap (λ (es : List Event). length (recording es)) none,
+          done .sent .counted ∙ sym (counts p (done .ring) (knownOf p k) w) ∙ ap bytesIn none,
+          done .sent .wrote ∙ ap (λ (es : List Event). recording es ++ drop (length (recording es)) out) none,
+        )
+
+-- What is memory is no setting, input or position.
+no-setting : Segment.setting ≡ Segment.memory → ⊥
+no-setting e = let z : _≡_ {A = ℕ} 0 1 = cc in omega arith
+
+no-input : Segment.input ≡ Segment.memory → ⊥
+no-input e = let z : _≡_ {A = ℕ} 0 1 = cc in omega arith
+
+no-transfer : Segment.transfer ≡ Segment.memory → ⊥
+no-transfer e = let z : _≡_ {A = ℕ} 0 1 = cc in omega arith
+
+painted-alike : (q : Family) (k : Segment.Fact → Standing) (pic : SegmentPicture) (c : Segment.Fact → ℕ) (f : Segment.Fact) → Segment.sort f ≡ Segment.memory
+    → updated (sizes q) k (pic .cells) c f ≡ painted (sizes q) pic c f
+painted-alike q k pic c =
+    every (λ (f : Segment.Fact). Segment.sort f ≡ Segment.memory → updated (sizes q) k (pic .cells) c f ≡ painted (sizes q) pic c f)
+    (λ i m. Leads.as-painted q k pic c i)
+    (λ m. absurd (no-setting m)) (λ m. absurd (no-setting m)) (λ m. absurd (no-setting m)) (λ m. absurd (no-setting m)) (λ m. absurd (no-setting m))
+    (λ m. absurd (no-setting m)) (λ m. absurd (no-setting m)) (λ i m. absurd (no-input m)) (λ m. absurd (no-input m)) (λ m. absurd (no-setting m))
+    (λ m. absurd (no-transfer m))
+
+-- The memory of the updated chip is that of the painted one, for any picture that has these cells.
+pub update-as-painted : (p : Part) → HasRing p → (k : Panel) (pic : Picture) (c : Fact p → ℕ) (f : Fact p) → IsMemory p f
+    → updatedBy p (knownOf p k) (pic .segment .cells) c f ≡ paintedBy p pic c f
+update-as-painted Pt6302 x k pic c f m = absurd x
+update-as-painted Pt6312 x k pic c f m = painted-alike OfFamily.Pt6312 (knownOf Pt6312 k) (pic .segment) c f m
+update-as-painted Pt6315 x k pic c f m = painted-alike OfFamily.Pt6315 (knownOf Pt6315 k) (pic .segment) c f m
