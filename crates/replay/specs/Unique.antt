@@ -1,5 +1,5 @@
--- Two answers of a replay that meet its promise are equal. The argument: the number and place fix the answer, and
--- what is known of every fact fixes the knowledge.
+-- Two answers of a replay that meet its promise are equal. The argument: both are refused alike or both are done, the number and place fix the answer,
+-- and what is known of every fact fixes the knowledge.
 use Prim.Native.Nat.{ℕ, _+_}
 use mathlib.Core.Path.{_≡_, sym, _∙_}
 use mathlib.Core.List.{List}
@@ -20,28 +20,36 @@ use Rattle.answers.specs.Unique.{same-answer}
 use Rattle.replay_tests.specs.Laws.{tested-both}
 use Rattle.replay.specs.Replay.{RefusedBy, PartDone, ByEnding, Replays}
 
-same-replayed : (r q : Replayed) → number (r .answer) ≡ number (q .answer) → place (r .answer) ≡ place (q .answer) → r .panel ≡ q .panel → r ≡ q
-same-replayed r q n p e =
-    let a = same-answer (r .answer) (q .answer) n p in
-    λ i. record { answer = a i; panel = e i }
+module _ (k : Panel) (l : List ℕ) (r q : Replayed) where
+  -- What holds of two that are refused alike, and of two that are done, holds of two answers of one replay.
+  module _ {X : Type 0} (refused : (n at : ℕ) → RefusedBy n at k r → RefusedBy n at k q → X)
+      (done : (p : Part) (es : List Event) → PartDone p es k l r → PartDone p es k l q → X) where
+    ended : (e : Ending) (start : ℕ) (p : Part) (es : List Event) → ByEnding e start k r (PartDone p es k l r) → ByEnding e start k q (PartDone p es k l q) → X
+    ended Ended.Done start p es h g = done p es h g
+    ended (Ended.Stops x at) start p es h g = refused (Record.number x) (start + at .0) h g
 
-one-refusal : (n at : ℕ) (k : Panel) (r q : Replayed) → RefusedBy n at k r → RefusedBy n at k q → r ≡ q
-one-refusal n at k r q h g = same-replayed r q (h .numbered ∙ sym (g .numbered)) (h .placed ∙ sym (g .placed)) (h .kept ∙ sym (g .kept))
+    same-way : (part : PartRead) (start : ℕ) → Replays part k l start r → Replays part k l start q → X
+    same-way (Is p) start h g =
+        tested-both (λ n. RefusedBy n 0 k r) (λ n. RefusedBy n 0 k q) (λ n. refused n 0)
+        (ended (endOf (walked p (drop start l))) start p (events (walked p (drop start l)))) h g
+    same-way (Refused at) start h g = refused 1 0 h g
 
-module _ (k : Panel) (l : List ℕ) (r q : Replayed) (sr : Shaped (r .panel)) (sq : Shaped (q .panel)) where
-  one-done : (p : Part) (es : List Event) → PartDone p es k l r → PartDone p es k l q → r ≡ q
-  one-done p es h g =
-      same-replayed r q (h .numbered ∙ sym (g .numbered)) (h .placed ∙ sym (g .placed))
-      (same-panel p k (r .panel) (q .panel) sr sq (λ f. h .known f ∙ sym (g .known f)) (h .kept) (g .kept))
+  -- The number and the place go by the part, the knowledge and the recording alone.
+  pub one-number : (part : PartRead) (start : ℕ) → Replays part k l start r → Replays part k l start q
+      → (number (r .answer) ≡ number (q .answer)) × (place (r .answer) ≡ place (q .answer))
+  one-number =
+      same-way (λ n at h g. (h .numbered ∙ sym (g .numbered), h .placed ∙ sym (g .placed)))
+      (λ p es h g. (h .numbered ∙ sym (g .numbered), h .placed ∙ sym (g .placed)))
 
-  -- By how the records end.
-  ended : (e : Ending) (start : ℕ) (P Q : Type 0) → (P → Q → r ≡ q) → ByEnding e start k r P → ByEnding e start k q Q → r ≡ q
-  ended Ended.Done start P Q same h g = same h g
-  ended (Ended.Stops x at) start P Q same h g = one-refusal (Record.number x) (start + at .0) k r q h g
+  one-known : Shaped (r .panel) → Shaped (q .panel) → (part : PartRead) (start : ℕ) → Replays part k l start r → Replays part k l start q → r .panel ≡ q .panel
+  one-known sr sq =
+      same-way (λ n at h g. h .kept ∙ sym (g .kept))
+      (λ p es h g. same-panel p k (r .panel) (q .panel) sr sq (λ f. h .known f ∙ sym (g .known f)) (h .kept) (g .kept))
 
   -- Two answers of one replay are one.
-  pub one-replayed : (part : PartRead) (start : ℕ) → Replays part k l start r → Replays part k l start q → r ≡ q
-  one-replayed (Is p) start h g =
-      tested-both (λ n. RefusedBy n 0 k r) (λ n. RefusedBy n 0 k q) (λ n. one-refusal n 0 k r q)
-      (ended (endOf (walked p (drop start l))) start _ _ (one-done p (events (walked p (drop start l))))) h g
-  one-replayed (Refused at) start h g = one-refusal 1 0 k r q h g
+  pub one-replayed : Shaped (r .panel) → Shaped (q .panel) → (part : PartRead) (start : ℕ) → Replays part k l start r → Replays part k l start q → r ≡ q
+  one-replayed sr sq part start h g =
+      let (numbers, places) = one-number part start h g in
+      let answers = same-answer (r .answer) (q .answer) numbers places in
+      let panels = one-known sr sq part start h g in
+      λ i. record { answer = answers i; panel = panels i }
