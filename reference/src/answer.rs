@@ -3,7 +3,8 @@
 /// The longest recording that is taken.
 pub const LONGEST: usize = 65_535;
 
-/// What a replay gives back: a number from the paper's table, and a place counted from the recording's front.
+/// What a replay gives back, and an update: a number from the paper's table, and a place counted from the
+/// recording's front.
 #[derive(Clone, Copy, Debug, PartialEq, Eq)]
 pub struct Answer {
     pub number: u8,
@@ -20,6 +21,7 @@ impl Answer {
     pub const KIND_NOT_OF_THIS_PART: u8 = 6;
     pub const BODY_CUT_SHORT: u8 = 7;
     pub const BODY_NOT_ALLOWED: u8 = 8;
+    pub const OUTPUT_TOO_SMALL: u8 = 10;
 
     pub fn done(length: usize) -> Self {
         Answer {

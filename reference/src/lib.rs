@@ -3,11 +3,14 @@
 //! Knowledge holds each fact of a chip as known or unknown.
 //! A replay moves it in place, so that after each event a fact is known exactly when every chip that fits the
 //! earlier knowledge comes out of the event with the same value.
+//!
+//! An update, which is paper 02's (M-102), sends a panel only those wanted cells that it is not known to have.
 
 pub mod answer;
 pub mod cells;
 pub mod character_panel;
 pub mod checksum;
+pub mod example_updates;
 pub mod fact;
 pub mod key_panel;
 pub mod knowledge;
@@ -18,4 +21,6 @@ pub mod replay;
 pub mod show;
 pub mod trial_inputs;
 pub mod trial_recordings;
+pub mod trial_updates;
+pub mod update;
 pub mod work_loads;

@@ -9,6 +9,11 @@ impl Random {
         Random { state: seed }
     }
 
+    /// For the trial with this number, which then depends on nothing but the seed and the number.
+    pub fn for_trial(seed: u64, number: usize) -> Self {
+        Random::new(seed.wrapping_mul(0x1_0000_0001) ^ (number as u64) << 20)
+    }
+
     /// One step of the generator known as splitmix64.
     pub fn number(&mut self) -> u64 {
         self.state = self.state.wrapping_add(0x9E37_79B9_7F4A_7C15);

@@ -91,3 +91,24 @@ impl Recording {
         self.strobe_rises();
     }
 }
+
+/// The bytes of each strobe, of a recording that has only falls, bytes and rises.
+pub fn strobes_in(mut recording: &[u8]) -> Vec<Vec<u8>> {
+    let mut strobes: Vec<Vec<u8>> = Vec::new();
+    loop {
+        recording = match *recording {
+            [0x02, ref rest @ ..] => {
+                strobes.push(Vec::new());
+                rest
+            }
+            [0x03, byte, ref rest @ ..] => {
+                let strobe = strobes.last_mut().expect("a strobe falls before its bytes");
+                strobe.push(byte);
+                rest
+            }
+            [0x04, ref rest @ ..] => rest,
+            [] => return strobes,
+            _ => panic!("not a fall, a byte or a rise: {recording:02X?}"),
+        }
+    }
+}

@@ -10,7 +10,7 @@ const PARTS: [u8; 3] = [PT6302, PT6312, PT6315];
 /// The input with this number, which depends on nothing but the seed and the number.
 /// The first few are the same for every seed but for their contents, so that no edge is left to chance.
 pub fn trial_input(seed: u64, number: usize) -> Vec<u8> {
-    let mut random = Random::new(seed.wrapping_mul(0x1_0000_0001) ^ (number as u64) << 20);
+    let mut random = Random::for_trial(seed, number);
     let edges = edge_cases();
     match edges.get(number) {
         Some(Edge::Empty) => Vec::new(),

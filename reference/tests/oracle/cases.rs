@@ -33,7 +33,7 @@ pub fn any_case(trial: &Trial<impl Chip>, random: &mut Random) -> Case {
     Case { known, record }
 }
 
-fn any_knowledge(rules: &impl Chip, pool: &[u8], random: &mut Random) -> Vec<Option<u8>> {
+pub fn any_knowledge(rules: &impl Chip, pool: &[u8], random: &mut Random) -> Vec<Option<u8>> {
     let unknown_in_ten = random.pick(&[0, 1, 3, 6, 9]);
     let mut known = Vec::new();
     for range in rules.ranges() {

@@ -1,4 +1,4 @@
-//! Holds the replay against an oracle that goes through every chip.
+//! Holds the replay against an oracle that goes through every chip, and the update against a few chips each.
 
 mod cases;
 mod character_chip;
@@ -6,6 +6,7 @@ mod character_facts;
 mod join;
 mod key_chip;
 mod key_facts;
+mod updates;
 
 use cases::{any_case, Trial};
 use character_chip::CharacterChip;

@@ -1,6 +1,10 @@
-//! Feeds the same inputs to two programs and compares what they print, byte for byte.
+//! Feeds the same inputs to two programs and compares what they print, byte for byte; or feeds lines to one program,
+//! and compares what it writes behind them with the update here.
 //!
 //! `differential [--bench] ONE OTHER [SEED] [COUNT]`
+//! `differential --updates PROGRAM [SEED] [COUNT]`
+
+mod updates;
 
 use reference::knowledge::replay_from_nothing;
 use reference::random::Random;
@@ -9,6 +13,16 @@ use std::io::{self, Write};
 use std::process::{self, ChildStdin, Command, Stdio};
 use std::time::Duration;
 use std::{env, fs, thread};
+
+/// What the arguments ask for.
+enum Asked {
+    Pair(Wanted),
+    Updates {
+        program: String,
+        seed: u64,
+        count: usize,
+    },
+}
 
 struct Wanted {
     /// The programs are benchmark programs, which expect two numbers in front and print a checksum.
@@ -26,10 +40,27 @@ struct Outcome {
 }
 
 fn main() -> io::Result<()> {
-    let Some(wanted) = read_arguments() else {
+    let Some(asked) = read_arguments() else {
         eprintln!("usage: differential [--bench] ONE OTHER [SEED] [COUNT]");
+        eprintln!("       differential --updates PROGRAM [SEED] [COUNT]");
         process::exit(2);
     };
+    let no_difference = match asked {
+        Asked::Pair(wanted) => compare(&wanted)?,
+        Asked::Updates {
+            program,
+            seed,
+            count,
+        } => updates::compare(&program, seed, count)?,
+    };
+    if !no_difference {
+        process::exit(1);
+    }
+    Ok(())
+}
+
+/// Whether two programs print the same.
+fn compare(wanted: &Wanted) -> io::Result<bool> {
     let mut answers_by_number = [0; 9];
     for number in 0..wanted.count {
         let trial = trial_input(wanted.seed, number);
@@ -43,29 +74,42 @@ fn main() -> io::Result<()> {
         let one = run(&wanted.one, &input, number)?;
         let other = run(&wanted.other, &input, number)?;
         if one != other || one.exit_code != Some(0) {
-            report_difference(&wanted, number, &input, &one, &other)?;
-            process::exit(1);
+            report_difference(wanted, number, &input, &one, &other)?;
+            return Ok(false);
         }
         answers_by_number[usize::from(answer.number)] += 1;
     }
     print_summary(&answers_by_number);
-    Ok(())
+    Ok(true)
 }
 
-fn read_arguments() -> Option<Wanted> {
-    let mut words: Vec<String> = env::args().skip(1).collect();
-    let bench = words.first().is_some_and(|word| word == "--bench");
-    if bench {
-        words.remove(0);
+fn read_arguments() -> Option<Asked> {
+    let mut words = env::args().skip(1).peekable();
+    if words.next_if_eq("--updates").is_some() {
+        let program = words.next()?;
+        let (seed, count) = seed_and_count(words)?;
+        return Some(Asked::Updates {
+            program,
+            seed,
+            count,
+        });
     }
-    let mut words = words.into_iter();
-    Some(Wanted {
+    let bench = words.next_if_eq("--bench").is_some();
+    let (one, other) = (words.next()?, words.next()?);
+    let (seed, count) = seed_and_count(words)?;
+    Some(Asked::Pair(Wanted {
         bench,
-        one: words.next()?,
-        other: words.next()?,
-        seed: words.next().map_or(Some(1), |word| word.parse().ok())?,
-        count: words.next().map_or(Some(2_000), |word| word.parse().ok())?,
-    })
+        one,
+        other,
+        seed,
+        count,
+    }))
+}
+
+fn seed_and_count(mut words: impl Iterator<Item = String>) -> Option<(u64, usize)> {
+    let seed = words.next().map_or(Some(1), |word| word.parse().ok())?;
+    let count = words.next().map_or(Some(2_000), |word| word.parse().ok())?;
+    Some((seed, count))
 }
 
 /// A benchmark program gets few rounds, once none; four of its inputs are too short to hold its two numbers.
