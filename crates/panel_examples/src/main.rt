@@ -1,7 +1,7 @@
 // Runs the examples of the file stdin, a line each, and writes each line back with what it comes to. It is compared with the file stdout, whose values
-// are from paper 01, and of packets and of the ring of cells from paper 02 (M-100, M-101).
+// are from paper 01, and of packets, the ring of cells and updates from paper 02 (M-100, M-101, M-102).
 //
-// A line that is a name, events, recordings or packets, says what the lines behind it are; a line that begins with # is a remark. Every other line begins
+// A line that is a name, events, recordings, packets or updates, says what the lines behind it are; a line that begins with # is a remark. Every other line begins
 // with a part byte, or is a packet and begins with /. Bytes are in hex, with a space between; words say what is known before, and their numbers are in hex.
 //     ( 03 5A )*FFFE   what stands between ( and ) is repeated until there are FFFEH bytes
 // The longest recordings and packets stand last among theirs, since the interpreter of `rt try` has not steps enough for them.
@@ -12,6 +12,7 @@ mod events;
 mod in_words;
 mod packeted;
 mod recordings;
+mod updates;
 
 use example_panels::Example;
 use example_text::Word;
@@ -79,6 +80,7 @@ fn comes_to(feed: Feed, example: Example, bytes: &[u8]) -> Feed {
     match section {
         b'e' => events::run(example.part, feed.panel, bytes),
         b'r' => recordings::run(example, feed.panel, bytes),
+        b'u' => updates::run(example, feed.panel, bytes),
         _ => return packeted::run(example, feed, bytes),
     }
     feed
