@@ -4,8 +4,6 @@ use Prim.Native.Nat.{_≤_, _-_}
 use borrow.Author.Needs.{needs}
 use Rattle.example_text.proofs.facts.show_facts.Statement.{statement}
 use Rattle.example_text.proofs.facts.show_facts.Tie as tie
-use Rattle.example_text.proofs.facts.fact.Reads as fact-reads
-use Rattle.example_text.proofs.parts.part.Reads as part-reads
 
 abbrev Inv-loop : tie.InvT-loop
 Inv-loop words from to all codes i₀ i = from ≤ i
