@@ -8,6 +8,7 @@ use mathlib.Core.Bool.{true}
 use mathlib.Core.List.{List, [], _++_, map}
 use lib.ListN.{length, take, drop}
 use lib.Seq.{take-at}
+use lib.Dec.{eqb}
 use Rattle.rules.specs.Choice.{whether}
 use Rattle.rules.specs.Where.{good, bad}
 use Rattle.knowing.specs.Standing.{Standing, Sound, Fits}
@@ -44,7 +45,8 @@ use Rattle.runs.specs.Count.{bytesIn}
 use Rattle.updating.specs.declared.Updated.{Updated}
 use Rattle.updating.specs.Answer.{number, place, count, Sent, streamOf, countOf, UpdatesSegment, UpdatesPart, Updates}
 use Rattle.updating.specs.Longest.{most-bytes}
-use Rattle.updated.specs.ByPart.{HasRing, cellsOf, differsFor, differingFor, startsFor, settingFor, updateFor, updatedBy, knownFor, WrittenOn, counts, nothing-sent, leads, writes, knows, reads}
+use Rattle.updated.specs.ByPart.{HasRing, cellsOf, differsFor, differingFor, startsFor, settingFor, updateFor, updatedBy, knownFor, WrittenOn, update-bytes, counts, leads, writes, knows, reads}
+use Rattle.updating.specs.Update.{differing, updateEvents}
 use Rattle.updating.specs.Updated.{updated}
 use Rattle.updated.specs.Leads as Leads
 use Rattle.demand.specs.Recording.{eventsFrom}
@@ -84,6 +86,33 @@ sent-part Pt6302 x k w out r after s l h = absurd x
 sent-part Pt6312 x k w out r after s l h = sent-segment OfFamily.Pt6312 k w out r after s l h
 sent-part Pt6315 x k w out r after s l h = sent-segment OfFamily.Pt6315 k w out r after s l h
 
+-- Where nothing differs, no bytes are sent, and every output has room for them.
+nothing-segment : (q : Family) (k : Panel) (w out : List ℕ) (r : Updated) (after : List ℕ) → Sound (Segment.range (sizes q)) (kview (k .segment))
+    → differing (sizes q) (kview (k .segment)) w ≡ [] → UpdatesSegment q (k .segment) w out r after → (number r ≡ 0) × (place r ≡ 0) × (count r ≡ 0) × (after ≡ out)
+nothing-segment q k w out r after s e h = go h
+  where
+    none : updateEvents (sizes q) (kview (k .segment)) w ≡ []
+    none = Leads.nothing-sent (sizes q) (kview (k .segment)) w (ap (λ (l : List ℕ). eqb (length l) 0) e)
+
+    empty : streamOf q (k .segment) w ≡ []
+    empty = ap recording none
+
+    go : UpdatesSegment q (k .segment) w out r after → (number r ≡ 0) × (place r ≡ 0) × (count r ≡ 0) × (after ≡ out)
+    go (good t (good f g)) = (
+      g .numbered,
+      g .placed ∙ ap length empty,
+      g .counted ∙ sym (update-bytes q (kview (k .segment)) w) ∙ ap bytesIn none,
+      g .wrote ∙ ap (λ (l : List ℕ). l ++ drop (length l) out) empty,
+    )
+    go (good t (bad f g)) = absurd (f (omega (arith, ap length empty)))
+    go (bad t g) = absurd (t s)
+
+nothing-part : (p : Part) → HasRing p → (k : Panel) (w out : List ℕ) (r : Updated) (after : List ℕ) → Sound (range p) (knownOf p k) → differingFor p (knownOf p k) w ≡ []
+    → UpdatesPart p k w out r after → (number r ≡ 0) × (place r ≡ 0) × (count r ≡ 0) × (after ≡ out)
+nothing-part Pt6302 x k w out r after s e h = absurd x
+nothing-part Pt6312 x k w out r after s e h = nothing-segment OfFamily.Pt6312 k w out r after s e h
+nothing-part Pt6315 x k w out r after s e h = nothing-segment OfFamily.Pt6315 k w out r after s e h
+
 by-part : (part : PartRead) (p : Part) → part ≡ Is p → (k : Panel) (w out : List ℕ) (r : Updated) (after : List ℕ) → Updates part k w out r after → UpdatesPart p k w out r after
 by-part part p e k w out r after h = subst (λ (x : PartRead). Updates x k w out r after) e h
 
@@ -92,6 +121,11 @@ module _ (b : ℕ) (p : Part) (named : partOf b ≡ Is p) (k : Panel) (w out : L
   -- That it is sent can always be had: for PT6312 and PT6315, from any knowledge in range, with 112 bytes.
   pub update-answers : HasRing p → Sound (range p) (knownOf p k) → 112 ≤ length out → number r ≡ 0
   update-answers x s l = sent-part p x k w out r after s l (by-part (partOf b) p named k w out r after met)
+
+  -- "Nothing to change emits nothing": number, place and count are 0 and the output is as it was, whatever is known of the setting and however small the output
+  -- is.
+  pub update-nothing : HasRing p → Sound (range p) (knownOf p k) → differingFor p (knownOf p k) w ≡ [] → (number r ≡ 0) × (place r ≡ 0) × (count r ≡ 0) × (after ≡ out)
+  update-nothing x s e = nothing-part p x k w out r after s e (by-part (partOf b) p named k w out r after met)
 
   module _ (zero : number r ≡ 0) where
     -- The bytes that `update` wrote: those before its place.
@@ -147,15 +181,6 @@ module _ (b : ℕ) (p : Part) (named : partOf b ≡ Is p) (k : Panel) (w out : L
               ∙ ap (λ (es : List Event). inTurn (same? p) (range p) (map (move p) es) (knownOf p k) f) (read .1)
               ∙ knows p (done .ring) (knownOf p k) w f,
           d .kept,
-        )
-
-    -- "Nothing to change emits nothing": the place and the count are 0, and the output is as it was.
-    pub update-nothing : differingFor p (knownOf p k) w ≡ [] → (place r ≡ 0) × (count r ≡ 0) × (after ≡ out)
-    update-nothing e =
-        let none : updateFor p (knownOf p k) w ≡ [] = nothing-sent p (done .ring) (knownOf p k) w e in (
-          done .sent .placed ∙ ap (λ (es : List Event). length (recording es)) none,
-          done .sent .counted ∙ sym (counts p (done .ring) (knownOf p k) w) ∙ ap bytesIn none,
-          done .sent .wrote ∙ ap (λ (es : List Event). recording es ++ drop (length (recording es)) out) none,
         )
 
 -- What is memory is no setting, input or position.

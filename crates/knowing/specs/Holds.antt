@@ -11,7 +11,7 @@ abbrev pub isKnown : Standing → ℕ → Bool
 isKnown (known w) v = eqb w v
 isKnown unknown v = false
 
--- This cell is known to hold this byte: one definition for all that compares a cell with a byte.
+-- This cell is known to hold this byte: one definition for all that asks this of a cell. What a cell has in common with a byte is `Know.join`.
 abbrev pub holds : Standing → ℕ → Bool
 holds cell byte = isKnown cell byte
 

@@ -1,6 +1,6 @@
 // Updates: the stream that brings a panel to the wanted cells.
 //
-// A line is a part byte and the wanted cells, from 00H on; those that are not given are wanted as 6E, which is what everything known has. Everything is
+// A line is a part byte and the wanted cells, from 00H on; those that are not given are wanted as 6E, which every cell is known to hold unless a word says otherwise. Everything is
 // known unless words between the bytes say otherwise: those of `events`, and
 //     @0046   the output has 0046H bytes; without it, and at most, it has 112
 //

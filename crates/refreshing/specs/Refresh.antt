@@ -1,5 +1,5 @@
 -- The whole answer of the call that brings a panel to a picture (paper 02, M-102: "For now the service replays the stream first, and falls back to a full
--- painting if that is refused"): number, place, what is known when the bytes have gone out, and every byte of the output afterwards.
+-- painting if that is refused"): number, place, with the count that an update has and a painting has not, what is known when the bytes have gone out, and every byte of the output afterwards.
 use Prim.Native.Nat.{ℕ, zero, suc, _≤_}
 use mathlib.Core.Path.{_≡_}
 use mathlib.Core.List.{List, _++_}
@@ -38,7 +38,7 @@ pub record Answers (a : Answered) (K : Panel → Type 0) (o : List ℕ) (r : Ref
 abbrev pub KnownBehind : ℕ → Panel → List ℕ → Panel → Type 0
 KnownBehind b k l known = (q : Replayed) × Replays (partOf b) k l 0 q × (known ≡ q .panel)
 
--- A full painting of the picture. The one that is refused has no bytes, so that all is known as before.
+-- A full painting of the picture. One that is refused has place 0, and the replay of no bytes leaves what is known as it was.
 abbrev pub Paints : ℕ → Panel → Picture → List ℕ → Refreshed → List ℕ → Type 0
 Paints b k pic out r after =
     let a = Paint.answer b pic (length out) in
@@ -46,7 +46,7 @@ Paints b k pic out r after =
     Answers (OfPainting a) (KnownBehind b k (take (Paint.place a .0) o)) o r after
 
 -- By the number that the replay of the update's stream answers: accepted, the update u is sent, and known is what that replay tells; refused, the picture is
--- painted.
+-- painted. From what the update went by the replay is always accepted (`demand/Update.update-replays`); the paper keeps the other way until M-110.
 abbrev pub ByReplay : ℕ → ℕ → Panel → Picture → Updated → List ℕ → Panel → List ℕ → Refreshed → List ℕ → Type 0
 ByReplay zero b k pic u o told out r after = Answers (OfUpdate u) (λ known. known ≡ told) o r after
 ByReplay (suc n) b k pic u o told out r after = Paints b k pic out r after

@@ -93,7 +93,7 @@ fn repaint(part: u8, panel: Panel, picture: Picture, out: &mut [u8]) -> Refreshe
     }
 }
 
-// How many bytes a painting has written: none where it is refused.
+// How many bytes a painting has written. A refusal's place is 0, and it has written none.
 fn length_of(painted: Painted) -> usize
     ensures { λ r. ⌜ r ≡ place painted .0 ⌝ }
 {

@@ -1,4 +1,4 @@
--- The longest stream: runs of n cells have at most 3n bytes, three for each cell; so 66 on PT6312, with 22 cells, and 108 on PT6315, with 36. The argument,
+-- No longer stream: runs of n cells have at most 3n bytes, three for each cell; so 66 on PT6312, with 22 cells, and 108 on PT6315, with 36. The argument,
 -- where not all cells differ: a cell that differs has two bytes, and a start four more, but a start stands behind a cell that has none. So let each cell
 -- that does not differ save its three for the one behind it: going once around the ring, every cell is paid for, and in the end as much is saved as was at
 -- first. Where all cells differ there is one run, and four of them pay one each for its start.

@@ -1,4 +1,4 @@
--- The runs are right: their starts rise, no cell is in two of them, together they are the cells that differ, and no two are adjacent around the ring. The
+-- The runs are right: their starts rise, no cell is in two of them or twice in one, together they are the cells that differ, and no two are adjacent around the ring. The
 -- argument: a cell of a run is so many steps on from its start, and all cells on the way differ; going back from a cell that differs, one comes to a
 -- start, and to one only.
 use Prim.Native.Nat.{ℕ, zero, suc, _+_, _-_, _<_, _≤_}
@@ -13,7 +13,7 @@ use lib.Dec.{ltb}
 use borrow.Author.Tests.{eqb-true, eq-eqb, ltb-true, ltb-false}
 use Rattle.rules.specs.Choice.{whether}
 use Rattle.runs.specs.Runs.{those, before, behind, differing, all, starts, startsOf, row, rowEnd, run, runEnd}
-use Rattle.runs.specs.Walk.{walk, walk-inside, walk-more, walk-back, walk-one, walk-up, reached}
+use Rattle.runs.specs.Walk.{walk, walk-apart, before-behind, walk-inside, walk-more, walk-back, walk-one, walk-up, reached}
 use Rattle.runs.specs.Linear.{those-most, those-none, not-all, starts-not, start-if, and-left}
 
 -- Which numbers are among those of which t holds.
@@ -260,7 +260,7 @@ module _ (n : ℕ) (d : ℕ → Bool) where
           at zero h = e
           at (suc s) h = f s (omega arith)
 
-  -- No two runs are adjacent: where not all cells differ, neither the cell before a run nor the one behind it does.
+  -- Where not all cells differ, neither the cell before a run nor the one behind it does.
   pub apart : (i : ℕ) → List·Memᴰ i (startsOf n d) → all n d ≡ false → (d (before n i) ≡ false) × (d (runEnd n d i) ≡ false)
   apart i h a = (before-it (d (before n i)) refl, behind-it (row-ends n i))
     where
@@ -280,6 +280,55 @@ module _ (n : ℕ) (d : ℕ → Bool) where
   -- All cells together are one run, from 00H.
   pub one-run : all n d ≡ true → (i : ℕ) → List·Memᴰ i (startsOf n d) → i ≡ 0
   one-run a i h = let is = start-inside i h .1 in eqb-true i 0 (sym (start-if n d i true a (differs-if i is)) ∙ is)
+
+  -- A run has no cell twice: its cells are those that one comes to, step by step.
+  row-cell : (m i a : ℕ) → a < length (row n d m i) → (getD (row n d m i) a 0 ≡ walk n a i) × (a < m)
+  unfolding walk
+  row-cell zero i a h = absurd (omega arith)
+  row-cell (suc m) i a h = go (d i) a h (λ b g. row-cell m (behind n i) b g)
+    where
+      go : (t : Bool) (a : ℕ) → a < length (whether t (i ∷ row n d m (behind n i)) [])
+          → ((b : ℕ) → b < length (row n d m (behind n i)) → (getD (row n d m (behind n i)) b 0 ≡ walk n b (behind n i)) × (b < m))
+          → (getD (whether t (i ∷ row n d m (behind n i)) []) a 0 ≡ walk n a i) × (a < suc m)
+      go true zero g more = (refl, omega arith)
+      go true (suc a) g more = let r = more a (omega arith) in (r .0, omega (arith, r .1))
+      go false a g more = absurd (omega arith)
+
+  pub run-once : (i a b : ℕ) → i < n → a < b → b < length (run n d i) → ¬ (getD (run n d i) a 0 ≡ getD (run n d i) b 0)
+  run-once i a b h l g e =
+      let (x, p) = row-cell n i a (omega arith) in
+      let (y, q) = row-cell n i b g in
+      let split : (b - a) + a ≡ b = omega arith in
+      let meet : walk n a i ≡ walk n a (walk n (b - a) i) = sym x ∙ e ∙ y ∙ ap (λ (m : ℕ). walk n m i) (sym split) ∙ walk-more n (b - a) a i in
+      walk-apart n (b - a) i (omega arith) (omega arith) h (sym (walk-one n a i (walk n (b - a) i) h (walk-inside n (b - a) i h) meet))
+
+  -- No two runs are adjacent around the ring: the cell behind one of a run's is in no other run.
+  pub not-adjacent : (i j c : ℕ) → List·Memᴰ i (startsOf n d) → List·Memᴰ j (startsOf n d) → List·Memᴰ c (run n d i) → List·Memᴰ (behind n c) (run n d j) → i ≡ j
+  unfolding walk
+  not-adjacent i j c p q g h = go u refl
+    where
+      inside : c < n
+      inside = run-inside i c (start-inside i p .0) g .0
+
+      r : (t : ℕ) × (t < n) × (walk n t j ≡ behind n c) × DiffersTo t j
+      r = in-row n j (behind n c) h
+
+      u : ℕ
+      u = r .0
+
+      -- The cell before a start differs only if all do, and then each start is 00H.
+      first : (a : Bool) → all n d ≡ a → j ≡ behind n c → i ≡ j
+      first true a e = one-run a i p ∙ sym (one-run a j q)
+      first false a e =
+          let back : before n j ≡ c = ap (before n) e ∙ before-behind n c inside in
+          absurd (true≢false (sym (run-inside i c (start-inside i p .0) g .1) ∙ ap d (sym back) ∙ apart j q a .0))
+
+      go : (t : ℕ) → t ≡ u → i ≡ j
+      go zero e = first (all n d) refl (ap (λ (m : ℕ). walk n m j) e ∙ r .2)
+      go (suc t) e =
+          let here : walk n t j ≡ c =
+          sym (walk-back n t j (start-inside j q .0)) ∙ ap (λ (m : ℕ). before n (walk n m j)) e ∙ ap (before n) (r .2) ∙ before-behind n c inside in
+          disjoint i j c p q g (Memᴰ·cast (sym here) (row-has n t j (omega (arith, r .1)) (λ s k. r .3 s (omega arith))))
 
   -- Nothing differs: there is no run; else there is one.
   pub none-differs : length (differing n d) ≡ 0 → (i : ℕ) → i < n → d i ≡ false

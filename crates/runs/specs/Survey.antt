@@ -1,4 +1,4 @@
--- How the cells that differ lie, as code counts them, and what it writes. `codes` tell what is known of the cells, and w are the wanted cells.
+-- How the cells that differ lie, as code counts them. `codes` tell what is known of the cells, and w are the wanted cells.
 -- The argument: a cell more adds itself where it differs, and a start where the cell before it does not; where all differ, none is found so, and there is
 -- one.
 use Prim.Native.Nat.{ℕ, zero, suc, _+_, _-_, _<_, _≤_}

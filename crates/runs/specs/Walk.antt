@@ -94,3 +94,17 @@ module _ (n : ℕ) where
             omega arith,
             walk-more (n - i) j i ∙ ap (walk n j) (walk-round (n - i) i (omega arith) (omega arith)) ∙ walk-up j 0 (omega arith) ∙ omega arith,
           )
+
+  -- Less than n steps lead to no cell twice.
+  pub walk-apart : (t i : ℕ) → 0 < t → t < n → i < n → ¬ (walk n t i ≡ i)
+  walk-apart t i h g k e = go (ltb (t + i) n) refl
+    where
+      go : (b : Bool) → ltb (t + i) n ≡ b → ⊥
+      go true q = let z = walk-up t i (ltb-true (t + i) n q) in omega arith
+      go false q =
+          let l = ltb-false (t + i) n q in
+          let split : (n - i) + (t - (n - i)) ≡ t = omega arith in
+          let z : walk n t i ≡ t - (n - i) =
+          ap (λ (m : ℕ). walk n m i) (sym split) ∙ walk-more (n - i) (t - (n - i)) i ∙ ap (walk n (t - (n - i))) (walk-round (n - i) i (omega arith) (omega arith))
+          ∙ walk-up (t - (n - i)) 0 (omega arith) ∙ omega arith in
+          omega arith

@@ -37,7 +37,7 @@ pub fn is_set(control: Control) -> bool
     }
 }
 
-// Of the first n cells.
+// Of the first n cells. A byte that goes over the wire is a record of two bytes, and each strobe has two more, its fall and its rise.
 pub fn send(n: usize, codes: &[u16], set: bool, wanted: &[u8], out: &mut [u8]) -> Updated
     requires { ⌜ (0 < n) × (n ≤ 64) × (n ≤ length (now codes)) × (n ≤ length (now wanted)) ⌝ }
     ensures { λ r. ⌜ Sends n (differ (now (codes .entry)) (now (wanted .entry))) set (now (wanted .entry)) (now (out .entry)) r (now (out .exit)) ⌝ }

@@ -14,7 +14,7 @@ pub fn both_codes(a: u16, b: u16) -> u16
     if a == b { a } else { 256 }
 }
 
-// This cell is known to hold this byte: one function for all that compares a cell with a byte.
+// This cell is known to hold this byte: one function for all that asks this of a cell.
 pub fn holds(code: u16, byte: u8) -> bool
     ensures { λ r. ⌜ r ≡ holds (coded code) byte ⌝ }
 {

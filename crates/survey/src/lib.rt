@@ -22,6 +22,7 @@ pub fn differs(code: u16, byte: u8) -> bool
     !holds(code, byte)
 }
 
+// No ring has more than 64 cells, so that no count passes that.
 pub fn counted(count: usize, one: bool) -> usize
     requires { ⌜ count < 64 ⌝ }
     ensures { λ r. ⌜ r ≡ count + whether one 1 0 ⌝ }

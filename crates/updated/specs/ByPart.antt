@@ -1,11 +1,10 @@
 -- An update by the part that it is for, so that it can be spoken of where a caller has a part byte. PT6302 has none: its answer is number 1.
 use Prim.Native.Nat.{ℕ, _+_, _<_}
 use native.Mathlib.Omega.{arith}
-use mathlib.Core.Path.{_≡_, ap, _∙_}
+use mathlib.Core.Path.{_≡_, _∙_}
 use mathlib.Core.Bool.{Bool, true, false}
 use mathlib.Core.List.{List, [], _∷_, _++_, map}
 use lib.ListN.{length}
-use lib.Dec.{eqb}
 use Rattle.rules.specs.Choice.{whether}
 use Rattle.rules.specs.Turn.{Surely}
 use Rattle.knowing.specs.Standing.{Standing, Fits}
@@ -86,7 +85,7 @@ WrittenOn Pt6312 es c i = Writes.WrittenBy (sizes OfFamily.Pt6312) es c i
 WrittenOn Pt6315 es c i = Writes.WrittenBy (sizes OfFamily.Pt6315) es c i
 
 -- The number of bytes in the events is cells plus runs plus the setting byte.
-update-bytes : (q : Family) (k : Segment.Fact → Standing) (w : List ℕ) → bytesIn (updateEvents (sizes q) k w) ≡ wireBytes (sizes q) k w
+pub update-bytes : (q : Family) (k : Segment.Fact → Standing) (w : List ℕ) → bytesIn (updateEvents (sizes q) k w) ≡ wireBytes (sizes q) k w
 update-bytes q k w = with-setting (sends40 (sizes q) k w) ∙ (let r = run-bytes (sizes q .cells) (differs (sizes q) k w) (wanted w) (some-cells q) in omega arith)
   where
     with-setting : (t : Bool) → bytesIn (whether t (strobe (0x40 ∷ [])) [] ++ runEvents (sizes q .cells) (differs (sizes q) k w) (wanted w))
@@ -99,11 +98,6 @@ pub counts : (p : Part) → HasRing p → (k : Fact p → Standing) (w : List �
 counts Pt6302 h k w = absurd h
 counts Pt6312 h k w = update-bytes OfFamily.Pt6312 k w
 counts Pt6315 h k w = update-bytes OfFamily.Pt6315 k w
-
-pub nothing-sent : (p : Part) → HasRing p → (k : Fact p → Standing) (w : List ℕ) → differingFor p k w ≡ [] → updateFor p k w ≡ []
-nothing-sent Pt6302 h k w e = absurd h
-nothing-sent Pt6312 h k w e = Leads.nothing-sent (sizes OfFamily.Pt6312) k w (ap (λ (l : List ℕ). eqb (length l) 0) e)
-nothing-sent Pt6315 h k w e = Leads.nothing-sent (sizes OfFamily.Pt6315) k w (ap (λ (l : List ℕ). eqb (length l) 0) e)
 
 pub leads : (p : Part) → HasRing p → (k : Fact p → Standing) (w : List ℕ) (c : Fact p → ℕ) → Fits k c → Surely (map (move p) (updateFor p k w)) c (updatedBy p k w c)
 leads Pt6302 h k w c f = absurd h

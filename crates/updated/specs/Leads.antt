@@ -1,5 +1,5 @@
--- An update leads every chip that fits the knowledge to the updated one, and writes just the cells that differ. The argument: if a cell differs, the data
--- setting is known to be the right one, and then the chip has it, or 40H sets it; so the runs go as they are meant. The cells of the runs are those that
+-- An update leads every chip that fits the knowledge to the updated one, and writes just the cells that differ. The argument: if a cell differs, either the
+-- data setting is known to be the right one, and the chip has it, or 40H sets it; so the runs go as they are meant. The cells of the runs are those that
 -- differ, and get their wanted bytes; a cell that does not differ is known to hold its wanted byte, and the chip fits, so it holds it already. If no cell
 -- differs there is no run, and nothing is sent.
 use Prim.Native.Nat.{ℕ, _<_}

@@ -1,6 +1,6 @@
 -- What it means that an event writes a cell: it stores its byte there; and an event that does not write the cell leaves it as it was, or, as power, a gap
 -- and test mode do, as anything. The argument: besides those three only a byte that is stored changes a cell, and where one is, the transfer is open, the
--- data mode is write display, and the address is that of the cell. So a cell past the last, which no event writes, is changed by those three alone.
+-- data mode is write display, and the address is that of the cell.
 use Prim.Native.Nat.{ℕ, zero, suc}
 use native.Mathlib.Omega.{arith}
 use mathlib.Core.Path.{_≡_, refl, ap, _∙_}

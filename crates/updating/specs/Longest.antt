@@ -1,4 +1,4 @@
--- The longest stream: 3 bytes for each cell, and 4 for the 40H strobe. That is 70 on PT6312 and 112 on PT6315. The argument: the runs have no more than 3
+-- No stream is longer than 3 bytes for each cell, and 4 for the 40H strobe: 70 on PT6312 and 112 on PT6315. The argument: the runs have no more than 3
 -- bytes a cell, and the strobe has 4.
 use Prim.Native.Nat.{ℕ, _+_, _*_, _≤_}
 use native.Mathlib.Omega.{arith}

@@ -1,4 +1,4 @@
--- The chip that was c after an update, and what is known then: the memory is wanted, and nothing else has changed but the address, the position and,
+-- The chip that was c after an update, and what is known then: the cells hold the wanted bytes, and nothing else has changed but the address, the position and,
 -- where 40H was sent, what a data setting sets (paper 02, M-102).
 use Prim.Native.Nat.{ℕ}
 use mathlib.Core.Bool.{Bool}
