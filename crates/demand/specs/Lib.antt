@@ -12,3 +12,4 @@ pub mod Packets
 pub mod InPackets
 pub mod NoFour
 pub mod TwoPackets
+pub mod Temperature

@@ -2,9 +2,12 @@
 use Prim.Native.Nat.{ℕ}
 use mathlib.Core.Path.{_≡_, refl, sym, ap, subst⁻¹}
 use mathlib.Core.Bool.{Bool, true, false, _&&_, true≢false}
-use lib.Dec.{eqb}
+use native.Mathlib.Omega.{arith}
+use lib.Dec.{eqb, ltb}
+use borrow.Author.Tests.{eqb-true, lt-ltb, le-ltb}
 use Rattle.rules.specs.Choice.{whether}
 use Rattle.knowing.specs.Standing as Of
+use Rattle.knowing.specs.Holds.{byteIn}
 use Rattle.knowing.specs.Join.{not-known, known-one}
 use Rattle.standing.specs.declared.standing.Standing.{Standing}
 use Rattle.standing.specs.declared.standing.Standing.the-variants.{Known, Unknown}
@@ -16,6 +19,18 @@ stands Unknown = Of.unknown
 -- 256 is unknown.
 abbrev pub coded : ℕ → Of.Standing
 coded n = whether (eqb n 256) Of.unknown (Of.known n)
+
+-- The byte that a code is of, if it is a byte's.
+abbrev pub byteCoded : ℕ → Of.Standing
+byteCoded n = whether (ltb n 256) (Of.known n) Of.unknown
+
+-- Where the code is in range, it is the byte that the cell is known to hold.
+pub byte-coded : (n : ℕ) → Of.Within 256 (coded n) → byteCoded n ≡ byteIn (coded n)
+byte-coded n = go (eqb n 256) refl
+  where
+    go : (t : Bool) → eqb n 256 ≡ t → Of.Within 256 (whether t Of.unknown (Of.known n)) → byteCoded n ≡ whether t Of.unknown (Of.known n)
+    go true e h = rw (le-ltb n 256 (let x = eqb-true n 256 e in omega arith)) refl
+    go false e h = rw (lt-ltb n 256 h) refl
 
 -- A test is true exactly where P holds.
 pub record Tests (b : Bool) (P : Type 0) : Type 0 where

@@ -1,10 +1,11 @@
 // Codes in a row: 256 is unknown, and any other code is known to be that number.
+use crate::standing::Standing;
 ghost use mathlib.Core.Path.{_≡_};
 ghost use Prim.Native.Nat.{_≤_};
 ghost use lib.ListN.{length};
 ghost use Rattle.knowing.specs.Standing.{Within};
 ghost use Rattle.knowing.specs.Holds.{holds};
-ghost use Rattle.standing.specs.View.{coded, Tests};
+ghost use Rattle.standing.specs.View.{stands, coded, byteCoded, Tests};
 ghost use Rattle.standing.specs.Codes.{bothCodes, Joined, RowSound, Small};
 
 // What two codes have in common.
@@ -19,6 +20,17 @@ pub fn holds(code: u16, byte: u8) -> bool
     ensures { λ r. ⌜ r ≡ holds (coded code) byte ⌝ }
 {
     code == byte as u16
+}
+
+// The byte that this cell is known to hold, or unknown. A code above 256 is no byte's.
+pub fn byte_in(code: u16) -> Standing
+    ensures { λ r. ⌜ stands r ≡ byteCoded code ⌝ }
+{
+    if code < 256 {
+        Standing::Known(code as u8)
+    } else {
+        Standing::Unknown
+    }
 }
 
 // The first `count` codes become what both rows have in common.

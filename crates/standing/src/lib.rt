@@ -4,6 +4,7 @@ mod standing;
 
 pub use codes::all_within;
 pub use codes::both_codes;
+pub use codes::byte_in;
 pub use codes::holds;
 pub use codes::join_first;
 pub use standing::Standing;

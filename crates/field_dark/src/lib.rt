@@ -1,0 +1,40 @@
+// Whether a temperature field is known to be dark (paper 02, M-103).
+use standing::Standing;
+use standing::is_known;
+use terms::Address;
+ghost use mathlib.Core.Path.{_≡_};
+ghost use Rattle.standing.specs.View.{stands};
+ghost use Rattle.field.specs.Field.{inUse, reachesPast, isDark};
+
+// The numbers of the lights, as `character/Value` has them.
+const OFF: u8 = 1;
+
+const ON: u8 = 2;
+
+pub fn is_dark(lights: Standing, digits: Standing, start: Address) -> bool
+    ensures { λ r. ⌜ r ≡ isDark (stands lights) (stands digits) (start .0) ⌝ }
+{
+    if is_known(lights, OFF) {
+        return true;
+    }
+    if is_known(lights, ON) {
+        return true;
+    }
+    reaches_past(digits, start)
+}
+
+// The last cell stands on digit start plus 5.
+fn reaches_past(digits: Standing, start: Address) -> bool
+    ensures { λ r. ⌜ r ≡ reachesPast (stands digits) (start .0) ⌝ }
+{
+    match digits {
+        Standing::Known(code) => in_use(code) < start.0 as usize + 5,
+        Standing::Unknown => false,
+    }
+}
+
+fn in_use(code: u8) -> usize
+    ensures { λ r. ⌜ r ≡ inUse code ⌝ }
+{
+    if code == 0 { 16 } else { 8 + code as usize }
+}

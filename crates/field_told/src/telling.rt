@@ -1,0 +1,46 @@
+// What is told of a field.
+use crate::cells::Row;
+use crate::cells::five_at;
+use field::Field;
+use field::spelled;
+use field_dark::is_dark;
+use standing::Standing;
+use terms::Address;
+ghost use mathlib.Core.Path.{_≡_};
+ghost use Prim.Native.Nat.{_≤_};
+ghost use lib.ListN.{getD};
+ghost use Rattle.standing.specs.View.{stands, byteCoded};
+ghost use Rattle.field.specs.Said.{said};
+ghost use Rattle.field.specs.Field.{told};
+ghost use Rattle.field_told.specs.Cells.{eitherUnknown};
+
+// Dark is tested first, then whether all is known, then what the cells spell.
+pub fn tell(lights: Standing, digits: Standing, dcram: [u16; 16], start: Address) -> Field
+    requires { ⌜ start .0 ≤ 11 ⌝ }
+    ensures { λ r. ⌜ said r ≡ told (stands lights) (stands digits) (λ i. byteCoded (getD dcram i 256)) (start .0) ⌝ }
+{
+    let dark = is_dark(lights, digits, start);
+    let unknown = either_unknown(lights, digits);
+    if dark {
+        return Field::Dark;
+    }
+    if unknown {
+        return Field::Unknown;
+    }
+    match five_at(dcram, start) {
+        Row::Known(five) => spelled(five),
+        Row::Unknown => Field::Unknown,
+    }
+}
+
+fn either_unknown(lights: Standing, digits: Standing) -> bool
+    ensures { λ r. ⌜ r ≡ eitherUnknown (stands lights) (stands digits) ⌝ }
+{
+    if let Standing::Unknown = lights {
+        return true;
+    }
+    if let Standing::Unknown = digits {
+        return true;
+    }
+    false
+}

@@ -1,0 +1,274 @@
+-- What holds of an answer of `temperature`, as a caller has it: of the byte of PT6302 and of what `temperature` promises.
+-- The argument: a reading comes only with number 0, and then it is what is told of the field; the rest is `Told`.
+use Prim.Native.Nat.{ℕ, _+_, _≤_, _<_}
+use native.Mathlib.Omega.{arith}
+use mathlib.Core.Path.{_≡_, refl, sym, ap, _∙_, subst, subst⁻¹}
+use mathlib.Core.Bool.{Bool, true, false, _||_, true≢false}
+use lib.IntN.{ℤ, pos}
+use lib.Dec.{eqb, ltb}
+use lib.Ieee.{Float, fin, binary32, add, eq, ofInt}
+use borrow.Author.Tests.{eq-eqb, eqb-false, ltb-false, le-ltb}
+use Rattle.rules.specs.Range.{Good}
+use Rattle.rules.specs.Where.{Where, good, bad}
+use Rattle.knowing.specs.Standing.{Standing, known, Agrees, Fits, Within, Sound}
+use Rattle.knowing.specs.Join.{known-one}
+use Rattle.knowing.specs.Holds.{isKnown, is-known, holds}
+use Rattle.terms.specs.Part.{partOf}
+use Rattle.terms.specs.declared.Part.the-variants.{Pt6302}
+use Rattle.terms.specs.declared.PartRead.the-variants.{Is}
+use Rattle.character.specs.declared.chip.Lights.the-variants.{Normal, Off, On}
+use Rattle.character.specs.Value.{lit}
+use Rattle.character.specs.Fact.{Fact, range, dcram, lights, digits}
+use Rattle.panel.specs.declared.knowledge.Panel.{Panel}
+use Rattle.panel.specs.View.{knownOf}
+use Rattle.whole.specs.Turns.{KnowsAtLeast}
+use Rattle.half_degrees.specs.Half.{signed, InHalves}
+use Rattle.half_degrees.specs.Laws.{double-whole, one-number, equals-nought}
+use Rattle.field.specs.declared.spelling.Five.{Five}
+use Rattle.field.specs.Said.{Said, reading, noReading, unknown}
+use Rattle.field.specs.Field.{minus, inUse, last, reachesPast, isDark, allDashes, isNumber, sizeOf, halvesOf, spelled}
+use Rattle.field.specs.Laws.{size-small, spells-none, spells-number, spells-nothing}
+use Rattle.thermometer.specs.declared.temperatures.Answer.{Answer}
+use Rattle.thermometer.specs.declared.temperatures.Answer.the-variants.{Reading}
+use Rattle.thermometer.specs.Answer.{number, Says, Reads, Answers, temperatureOf, TellsField, TellsSound, Tells}
+use Rattle.thermometer.specs.Laws.{tells-as}
+use Rattle.thermometer.specs.Shown.{fieldOf, Shows, KnownToShow}
+use Rattle.thermometer.specs.Unique.{Fitting, by-said, same-said}
+use Rattle.readings.specs.Told.{Known, reading-known, known-reading, AtLeast, told-more}
+
+-- ---- what is known, in the words of the request
+
+or-false : (a b : Bool) → (a || b) ≡ false → (a ≡ false) × (b ≡ false)
+or-false true b e = absurd (true≢false e)
+or-false false b e = (refl, e)
+
+-- Lights that are neither off nor on are normal.
+normal : (v : ℕ) → v < 3 → isKnown (known v) (lit Off) ≡ false → isKnown (known v) (lit On) ≡ false → v ≡ lit Normal
+normal v h p q =
+    let not-off = eqb-false v 1 p in
+    let not-on = eqb-false v 2 q in
+    omega arith
+
+module _ (k : Fact → Standing) (start : ℕ) (h : ℤ) where
+  -- What is told to be a reading is known to show it,
+  to-show : Sound range k → Known (k lights) (k digits) (λ i. k (dcram i)) start h → KnownToShow start h k
+  to-show sound w =
+      let lights-is : isDark (known (w .light)) (known (w .code)) start ≡ false = subst (λ (x : Standing). isDark x (known (w .code)) start ≡ false) (w .lights) (subst (λ (x : Standing). isDark (k lights) x start ≡ false) (w .digits) (w .lit)) in
+      let (not-off, rest) = or-false (isKnown (known (w .light)) (lit Off)) _ lights-is in
+      let (not-on, not-past) = or-false (isKnown (known (w .light)) (lit On)) _ rest in
+      let few : w .light < 3 = subst (Within 3) (w .lights) (sound lights) in
+      record {
+        lit = rw (w .lights) (eq-eqb (w .light) 0 (normal (w .light) few not-off not-on));
+        code = w .code;
+        digits = rw (w .digits) (eq-eqb (w .code) (w .code) refl);
+        within = ltb-false (inUse (w .code)) (last start) not-past;
+        five = w .five;
+        sign = rw (w .sign) (eq-eqb (w .five .sign) (w .five .sign) refl);
+        tens = rw (w .tens) (eq-eqb (w .five .tens) (w .five .tens) refl);
+        units = rw (w .units) (eq-eqb (w .five .units) (w .five .units) refl);
+        point = rw (w .point) (eq-eqb (w .five .point) (w .five .point) refl);
+        half = rw (w .half) (eq-eqb (w .five .half) (w .five .half) refl);
+        spells = w .spells;
+      }
+
+  -- and the other way round.
+  from-show : KnownToShow start h k → Known (k lights) (k digits) (λ i. k (dcram i)) start h
+  from-show w =
+      let light = is-known (k lights) 0 (w .lit) in
+      let code = is-known (k digits) (w .code) (w .digits) in
+      record {
+        lit = rw (light, code) (le-ltb (inUse (w .code)) (last start) (w .within));
+        light = 0;
+        lights = light;
+        code = w .code;
+        digits = code;
+        five = w .five;
+        sign = is-known (k (dcram start)) (w .five .sign) (w .sign);
+        tens = is-known (k (dcram (start + 1))) (w .five .tens) (w .tens);
+        units = is-known (k (dcram (start + 2))) (w .five .units) (w .units);
+        point = is-known (k (dcram (start + 3))) (w .five .point) (w .point);
+        half = is-known (k (dcram (start + 4))) (w .five .half) (w .half);
+        spells = w .spells;
+      }
+
+  -- What is known to show a reading, every chip that fits shows.
+  value-is : (s : Standing) (v w : ℕ) → isKnown s v ≡ true → Agrees s w → w ≡ v
+  value-is s v w e a = subst (λ (x : Standing). Agrees x w) (is-known s v e) a
+
+  fits-shows : KnownToShow start h k → (c : Fact → ℕ) → Fits k c → Shows start h c
+  fits-shows w c fits =
+      let cells : fieldOf c start ≡ w .five =
+      λ i. record {
+        sign = value-is (k (dcram start)) (w .five .sign) (c (dcram start)) (w .sign) (fits (dcram start)) i;
+        tens = value-is (k (dcram (start + 1))) (w .five .tens) (c (dcram (start + 1))) (w .tens) (fits (dcram (start + 1))) i;
+        units = value-is (k (dcram (start + 2))) (w .five .units) (c (dcram (start + 2))) (w .units) (fits (dcram (start + 2))) i;
+        point = value-is (k (dcram (start + 3))) (w .five .point) (c (dcram (start + 3))) (w .point) (fits (dcram (start + 3))) i;
+        half = value-is (k (dcram (start + 4))) (w .five .half) (c (dcram (start + 4))) (w .half) (fits (dcram (start + 4))) i;
+      } in
+      record {
+        lit = value-is (k lights) (lit Normal) (c lights) (w .lit) (fits lights);
+        within = rw (value-is (k digits) (w .code) (c digits) (w .digits) (fits digits)) (w .within);
+        spells = ap spelled cells ∙ w .spells;
+      }
+
+-- ---- what five cells spell
+
+same-reading : {h j : ℤ} → reading h ≡ reading j → h ≡ j
+same-reading e = cc
+
+-- A chip shows no two readings in one field.
+pub shows-one : (start : ℕ) (h j : ℤ) (c : Fact → ℕ) → Shows start h c → Shows start j c → h ≡ j
+shows-one start h j c p q = same-reading (sym (p .spells) ∙ q .spells)
+
+-- Five dashes spell no number.
+dashes : (f : Five) (h : ℤ) → allDashes f ≡ true → spelled f ≡ reading h → ⊥
+dashes f h d e =
+    let none : noReading ≡ reading h = sym (spells-none f d) ∙ e in
+    let z : _≡_ {A = ℕ} 0 1 = cc in
+    omega arith
+
+-- A number that five cells spell is from -199 to 199 half degrees.
+pub record InField (h : ℤ) : Type 0 where
+  pub negative : Bool
+  pub size : ℕ
+  pub most : size ≤ 199
+  pub is : h ≡ signed negative size
+
+spelled-few : (f : Five) (h : ℤ) → spelled f ≡ reading h → InField h
+spelled-few f h e = go (allDashes f) (isNumber f) refl refl
+  where
+    no : {s : Said} → spelled f ≡ s → (s ≡ reading h → ⊥) → InField h
+    no p n = absurd (n (sym p ∙ e))
+
+    go : (t u : Bool) → allDashes f ≡ t → isNumber f ≡ u → InField h
+    go true u p q = absurd (dashes f h p e)
+    go false true p q =
+        record {
+          negative = eqb (f .sign) minus;
+          size = sizeOf f;
+          most = size-small f;
+          is = same-reading (sym e ∙ spells-number f p q);
+        }
+    go false false p q = no (spells-nothing f p q) (λ z. let y : _≡_ {A = ℕ} 0 1 = cc in omega arith)
+
+-- ---- the answer
+
+reads-number : (r : Answer) (h : ℤ) → Reads r h → number r ≡ 0
+reads-number r h (f, e, v) = ap number e
+
+-- What a reading says is its half degrees, and nothing else.
+reads-says : (r : Answer) (h : ℤ) (s : Said) → Reads r h → Says r s → s ≡ reading h
+reads-says r h s (f, e, v) w =
+    let (j, said, u) = subst (λ (x : Answer). Says x s) e w in
+    said ∙ ap reading (one-number f j h u v)
+
+-- An answer of a reading is what is told of the field, by who knows nothing out of range.
+pub record FromField (k : Fact → Standing) (start : ℕ) (h : ℤ) : Type 0 where
+  pub in-range : Sound range k
+  pub a-field : start ≤ 11
+  pub told : temperatureOf k start ≡ reading h
+
+from-field : (k : Fact → Standing) (start : ℕ) (r : Answer) (h : ℤ) → Reads r h → TellsSound k start r → FromField k start h
+from-field k start r h reads (good sound (good few a)) = record { in-range = sound; a-field = few; told = reads-says r h (temperatureOf k start) reads (a .says) }
+from-field k start r h reads (good sound (bad n a)) = absurd (let z = sym (a .numbered) ∙ reads-number r h reads in omega arith)
+from-field k start r h reads (bad n a) = absurd (let z = sym (a .numbered) ∙ reads-number r h reads in omega arith)
+
+-- A reading is some half degrees, from -99.5 to 99.5, to its last bit; its double, in the logic's own IEEE numbers, is
+-- that whole number; and it is what is told of the field.
+pub record ExactReading (k : Fact → Standing) (start : ℕ) (f : Float) : Type 0 where
+  pub halves : ℤ
+  pub float : InHalves f halves
+  pub double : add binary32 f f ≡ ofInt binary32 halves
+  pub few : InField halves
+  pub told : temperatureOf k start ≡ reading halves
+
+-- A chip, as what is known by who knows all of it.
+abbrev pub wholly : (Fact → ℕ) → Fact → Standing
+wholly c f = known (c f)
+
+fits-less : (k : Fact → Standing) (c : Fact → ℕ) → Fits k c → KnowsAtLeast k (wholly c)
+fits-less k c fits f v e = ap known (subst (λ (x : Standing). Agrees x (c f)) e (fits f))
+
+module _ (b : ℕ) (named : partOf b ≡ Is Pt6302) (k : Panel) (start : ℕ) (r : Answer) (met : Tells (partOf b) k start r) where
+  promised : TellsSound (knownOf Pt6302 k) start r
+  promised = tells-as (partOf b) (Is Pt6302) k start r named met
+
+  -- "The f32 is exact."
+  pub reading-exact : (f : Float) → r ≡ Reading f → ExactReading (knownOf Pt6302 k) start f
+  reading-exact f e = go promised
+    where
+      go : TellsSound (knownOf Pt6302 k) start r → ExactReading (knownOf Pt6302 k) start f
+      go (good sound (good few a)) =
+          let (h, said, v) = subst (λ (x : Answer). Says x (temperatureOf (knownOf Pt6302 k) start)) e (a .says) in
+          let w = reading-known (knownOf Pt6302 k lights) (knownOf Pt6302 k digits) (λ i. knownOf Pt6302 k (dcram i)) start h said in
+          record { halves = h; float = v; double = double-whole f h v; few = spelled-few (w .five) h (w .spells); told = said }
+      go (good sound (bad n a)) = absurd (let z = sym (a .numbered) ∙ ap number e in omega arith)
+      go (bad n a) = absurd (let z = sym (a .numbered) ∙ ap number e in omega arith)
+
+  -- A reading is given only where lights, digits and the five cells are known, the field is lit, within the digits in
+  -- use, and spells it;
+  pub reading-is-known : (h : ℤ) → Reads r h → KnownToShow start h (knownOf Pt6302 k)
+  reading-is-known h reads =
+      let f = from-field (knownOf Pt6302 k) start r h reads promised in
+      to-show (knownOf Pt6302 k) start h (f .in-range) (reading-known _ _ _ start h (f .told))
+
+  -- and it is given there, where what is known is in range and a field may start there.
+  pub known-is-read : (h : ℤ) → Sound range (knownOf Pt6302 k) → start ≤ 11 → KnownToShow start h (knownOf Pt6302 k) → Reads r h
+  known-is-read h sound few w = go promised
+    where
+      told : temperatureOf (knownOf Pt6302 k) start ≡ reading h
+      told = known-reading _ _ _ start h (from-show (knownOf Pt6302 k) start h w)
+
+      go : TellsSound (knownOf Pt6302 k) start r → Reads r h
+      go (good _ (good _ a)) = by-said (reading h) r (a .numbered) (subst (Says r) told (a .says))
+      go (good _ (bad n a)) = absurd (n few)
+      go (bad n a) = absurd (n sound)
+
+  -- A reading is given only if every chip that fits shows that field, and no chip that fits shows another.
+  pub reading-is-shown : (h : ℤ) → Reads r h → (c : Fact → ℕ) → Fits (knownOf Pt6302 k) c
+      → Shows start h c × ((j : ℤ) → Shows start j c → j ≡ h)
+  reading-is-shown h reads c fits =
+      let shows = fits-shows (knownOf Pt6302 k) start h (reading-is-known h reads) c fits in
+      (shows, λ j other. shows-one start j h c other shows)
+
+  -- If the answer is a reading of nought, then every chip that fits shows, in those five cells, lit and within the digits
+  -- in use, a field that spells nought.
+  pub nought-is-shown : (f : Float) → r ≡ Reading f → eq f (fin false 0 (pos 0)) ≡ true
+      → (c : Fact → ℕ) → Fits (knownOf Pt6302 k) c → Shows start (pos 0) c
+  nought-is-shown f e nought c fits =
+      let x = reading-exact f e in
+      let reads : Reads r (pos 0) = (f, e, subst (InHalves f) (equals-nought f (x .halves) (x .float) nought) (x .float)) in
+      reading-is-shown (pos 0) reads c fits .0
+
+  -- A field whose five cells are 2DH, on any chip that fits, never reads as a number.
+  pub dashes-never-read : (c : Fact → ℕ) → Fits (knownOf Pt6302 k) c → allDashes (fieldOf c start) ≡ true
+      → (f : Float) → r ≡ Reading f → ⊥
+  dashes-never-read c fits d f e =
+      let x = reading-exact f e in
+      dashes (fieldOf c start) (x .halves) d (reading-is-shown (x .halves) (f, e, x .float) c fits .0 .spells)
+
+  -- What is known by who knows at least as much, and is in range, is answered the same, unless the answer said unknown.
+  module _ (more : Fact → Standing) (sound : Sound range (knownOf Pt6302 k)) (least : KnowsAtLeast (knownOf Pt6302 k) more) (n : Says r unknown → ⊥) where
+    same-told : TellsSound (knownOf Pt6302 k) start r → (start ≤ 11) × Answers 0 (temperatureOf more start) r
+    same-told (good _ (good few a)) =
+        let same = told-more _ _ _ _ _ _ start (least lights) (least digits) (λ i. least (dcram i)) (λ u. n (subst (Says r) u (a .says))) in
+        (few, subst⁻¹ (λ (s : Said). Answers 0 s r) same a)
+    same-told (good _ (bad m a)) = absurd (n (a .says))
+    same-told (bad m a) = absurd (m sound)
+
+  -- "More knowledge never changes an answer other than unknown."
+  pub more-keeps : (k′ : Panel) (r′ : Answer) → Tells (partOf b) k′ start r′ → Fitting r → Fitting r′
+      → Sound range (knownOf Pt6302 k) → Sound range (knownOf Pt6302 k′) → KnowsAtLeast (knownOf Pt6302 k) (knownOf Pt6302 k′)
+      → (Says r unknown → ⊥) → r′ ≡ r
+  more-keeps k′ r′ met′ fit fit′ sound sound′ least n =
+      go (same-told (knownOf Pt6302 k′) sound least n promised) (tells-as (partOf b) (Is Pt6302) k′ start r′ named met′)
+    where
+      go : (start ≤ 11) × Answers 0 (temperatureOf (knownOf Pt6302 k′) start) r → TellsSound (knownOf Pt6302 k′) start r′ → r′ ≡ r
+      go (few, a) (good _ (good _ q)) = same-said k′ start r′ r fit′ fit _ q a
+      go (few, a) (good _ (bad m q)) = absurd (m few)
+      go (few, a) (bad m q) = absurd (m sound′)
+
+  -- So an answer other than unknown is what is told of every chip that fits, by who knows all of it.
+  pub answer-is-shown : Sound range (knownOf Pt6302 k) → (Says r unknown → ⊥) → (c : Fact → ℕ) → Fits (knownOf Pt6302 k) c
+      → Says r (temperatureOf (wholly c) start)
+  answer-is-shown sound n c fits = same-told (wholly c) sound (fits-less (knownOf Pt6302 k) c fits) n promised .1 .says

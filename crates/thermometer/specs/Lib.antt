@@ -1,0 +1,4 @@
+pub mod Answer
+pub mod Laws
+pub mod Unique
+pub mod Shown
