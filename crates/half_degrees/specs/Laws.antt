@@ -15,7 +15,7 @@ use lib.Ieee.Fits.{up-pos, down-pos, and-l}
 use lib.Ieee.Exact.{HasValue}
 use lib.Ieee.Back.{whole-unique}
 use lib.Ieee.Scale.{round-same}
-use Rattle.half_degrees.specs.Half.{InHalves}
+use Rattle.half_degrees.specs.Half.{signed, InHalves, Halved}
 
 -- ---- the double
 
@@ -161,3 +161,12 @@ nought-size (fin t m e) s n v q =
 pub equals-nought : (f : Float) (h : ℤ) → InHalves f h → eq f (fin false 0 (pos 0)) ≡ true → h ≡ pos 0
 equals-nought f (pos n) v q = ap pos (nought-size f false n v q)
 equals-nought f (negsuc n) v q = absurd (let z = nought-size f true (suc n) v q in omega arith)
+
+-- A float that is some half degrees, and has the sign of what is below nought, is below it; so minus nought is none.
+pub under-nought : (f : Float) (n : ℕ) → Halved f → HasValue f true n 2 → (m : ℕ) × (n ≡ suc m) × InHalves f (negsuc m)
+under-nought f n w v = go (w .negative) (w .halves) (w .exact)
+  where
+    go : (s : Bool) (m : ℕ) → InHalves f (signed s m) → (m : ℕ) × (n ≡ suc m) × InHalves f (negsuc m)
+    go false m u = absurd (true≢false (one-size f true false n m v u .0))
+    go true zero u = absurd (true≢false (one-size f true false n 0 v u .0))
+    go true (suc m) u = (m, one-size f true true n (suc m) v u .1, u)

@@ -15,10 +15,10 @@ pub fn degrees(negative: bool, halves: u8) -> f32
 // Below nought or not, and how many half degrees.
 pub struct Halves(pub bool, pub u8);
 
-// How many half degrees a float is that is some.
+// The sign of a float that is some half degrees, and how many it is.
 pub fn halves_of(degrees: f32) -> Halves
     requires { ⌜ Halved degrees ⌝ }
-    ensures { λ r. ⌜ InHalves degrees (signed (r .0) (r .1)) ⌝ }
+    ensures { λ r. ⌜ HasValue degrees (r .0) (r .1) 2 ⌝ }
 {
     if degrees < 0.0 {
         return Halves(true, doubled(0.0 - degrees));

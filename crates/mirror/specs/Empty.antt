@@ -6,7 +6,8 @@ use mathlib.Core.Path.{sym, subst}
 use mathlib.Core.List.{List, []}
 use Rattle.terms.specs.Part.{partOf}
 use Rattle.mirror_input.specs.Input.{partByte, behind}
-use Rattle.page.specs.Page.{refusedAt, Prints}
+use Rattle.refusals.specs.Refusal.{refusedAt}
+use Rattle.page.specs.Page.{Prints}
 use Rattle.page.specs.Laws.{page-refused}
 use Rattle.mirror.specs.Mirror.{Shows}
 

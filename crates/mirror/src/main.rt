@@ -5,10 +5,9 @@ use input::read_input;
 use libc::STDOUT_FILENO;
 use mirror_input::part_byte;
 use mirror_input::recording_of;
-use replay::Replayed;
-use terms::Place;
+use replay::from_nothing;
 ghost use Rattle.mirror_input.specs.Input.{partByte, behind};
-ghost use Rattle.mirror.specs.Mirror.{FromNothing, Shows};
+ghost use Rattle.mirror.specs.Mirror.{Shows};
 
 // The part byte, the longest recording that is allowed, and one byte more, which shows that a recording is too long.
 fn main() {
@@ -38,14 +37,8 @@ fn mirrored(input: &[u8], out: &mut [u8]) -> usize
 fn shown(part: u8, recording: &[u8], out: &mut [u8]) -> usize
     ensures { λ r. ⌜ Shows part (now (recording .entry)) (now (out .entry)) r (now (out .exit)) ⌝ }
 {
-    let after = replayed(part, recording);
+    let after = from_nothing(part, recording);
     let answer = after.answer;
     let panel = after.panel;
     page::write_page(part, answer, panel, out)
-}
-
-fn replayed(part: u8, recording: &[u8]) -> Replayed
-    ensures { λ r. ⌜ FromNothing part (now (recording .entry)) r ⌝ }
-{
-    replay::replay(part, panel::nothing_known(), recording, Place(0))
 }

@@ -11,3 +11,12 @@ partByte (byte ∷ rest) = byte
 abbrev pub behind : List ℕ → List ℕ
 behind [] = []
 behind (byte ∷ rest) = rest
+
+-- The start of a temperature field stands behind the part byte. Where it is missing it counts as 255, at which no field
+-- starts.
+abbrev pub startIn : List ℕ → ℕ
+startIn [] = 255
+startIn (start ∷ rest) = start
+
+abbrev pub startByte : List ℕ → ℕ
+startByte input = startIn (behind input)

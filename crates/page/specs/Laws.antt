@@ -14,8 +14,9 @@ use Rattle.answers.specs.declared.Answer.{Answer}
 use Rattle.answers.specs.Answer.{number, place}
 use Rattle.writing.specs.Writes.{Writes}
 use Rattle.writing.specs.Laws.{writes-front}
+use Rattle.refusals.specs.Refusal.{refusedAt}
 use Rattle.listing.specs.Memory.{memory}
-use Rattle.page.specs.Page.{doneAt, refusedAt, printed, page, room, Prints}
+use Rattle.page.specs.Page.{doneAt, printed, page, room, Prints}
 
 -- The page of a replay that is done, and of one that is refused.
 pub page-done : (q : PartRead) (answer : Answer) (k : Panel) {p : ℕ} → number answer ≡ 0 → p ≡ place answer → page q answer k ≡ doneAt p ++ memory q k

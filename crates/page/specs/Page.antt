@@ -9,6 +9,7 @@ use Rattle.panel.specs.declared.knowledge.Panel.{Panel}
 use Rattle.answers.specs.declared.Answer.{Answer}
 use Rattle.answers.specs.Answer.{number, place}
 use Rattle.text.specs.Text.{newline, decimal}
+use Rattle.refusals.specs.Refusal.{refusedAt}
 use Rattle.listing.specs.Memory.{memory}
 
 -- "done at N".
@@ -16,12 +17,6 @@ abbrev pub doneAt : ℕ → List ℕ
 doneAt n =
     (code "d" ∷ code "o" ∷ code "n" ∷ code "e" ∷ code " " ∷ code "a" ∷ code "t" ∷ code " " ∷ [])
     ++ (decimal n ++ (newline ∷ []))
-
--- "refused N at P".
-abbrev pub refusedAt : ℕ → ℕ → List ℕ
-refusedAt n p =
-    (code "r" ∷ code "e" ∷ code "f" ∷ code "u" ∷ code "s" ∷ code "e" ∷ code "d" ∷ code " " ∷ [])
-    ++ (decimal n ++ ((code " " ∷ code "a" ∷ code "t" ∷ code " " ∷ []) ++ (decimal p ++ (newline ∷ []))))
 
 -- Number 0 prints what is known; "a refusal prints only" its number and place.
 abbrev pub printed : PartRead → ℕ → ℕ → Panel → List ℕ

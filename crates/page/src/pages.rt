@@ -3,13 +3,14 @@ use answers::Answer;
 use answers::told_of;
 use listing::memory;
 use panel::Panel;
+use refusals::refused;
 use terms::Place;
 use text::decimal;
 use writing::put;
 use writing::words;
 ghost use Rattle.terms.specs.Part.{partOf};
 ghost use Rattle.writing.specs.Writes.{Writes};
-ghost use Rattle.page.specs.Page.{doneAt, refusedAt, page, Prints};
+ghost use Rattle.page.specs.Page.{doneAt, page, Prints};
 
 // Enough for every page.
 pub const ROOM: usize = 300;
@@ -35,15 +36,5 @@ fn done(out: &mut [u8], place: Place) -> usize
 {
     let begun = words(out, 0, b"done at ");
     let told = decimal(out, begun, place.0);
-    put(out, told, b'\n')
-}
-
-fn refused(out: &mut [u8], number: u8, place: Place) -> usize
-    ensures { λ r. ⌜ Writes (now (out .entry)) 0 (refusedAt number (place .0)) r (now (out .exit)) ⌝ }
-{
-    let begun = words(out, 0, b"refused ");
-    let numbered = decimal(out, begun, number as usize);
-    let next = words(out, numbered, b" at ");
-    let told = decimal(out, next, place.0);
     put(out, told, b'\n')
 }

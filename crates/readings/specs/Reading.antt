@@ -14,15 +14,16 @@ use Rattle.knowing.specs.Standing.{Standing, known, Agrees, Fits, Within, Sound
 use Rattle.knowing.specs.Join.{known-one}
 use Rattle.knowing.specs.Holds.{isKnown, is-known, holds}
 use Rattle.terms.specs.Part.{partOf}
-use Rattle.terms.specs.declared.Part.the-variants.{Pt6302}
-use Rattle.terms.specs.declared.PartRead.the-variants.{Is}
+use Rattle.terms.specs.declared.Part.the-variants.{Pt6302, Pt6312, Pt6315}
+use Rattle.terms.specs.declared.PartRead.{PartRead}
+use Rattle.terms.specs.declared.PartRead.the-variants.{Is, Refused}
 use Rattle.character.specs.declared.chip.Lights.the-variants.{Normal, Off, On}
 use Rattle.character.specs.Value.{lit}
 use Rattle.character.specs.Fact.{Fact, range, dcram, lights, digits}
 use Rattle.panel.specs.declared.knowledge.Panel.{Panel}
 use Rattle.panel.specs.View.{knownOf}
 use Rattle.whole.specs.Turns.{KnowsAtLeast}
-use Rattle.half_degrees.specs.Half.{signed, InHalves}
+use Rattle.half_degrees.specs.Half.{signed, InHalves, Halved}
 use Rattle.half_degrees.specs.Laws.{double-whole, one-number, equals-nought}
 use Rattle.field.specs.declared.spelling.Five.{Five}
 use Rattle.field.specs.Said.{Said, reading, noReading, unknown}
@@ -182,6 +183,24 @@ pub record ExactReading (k : Fact → Standing) (start : ℕ) (f : Float) : Type
   pub few : InField halves
   pub told : temperatureOf k start ≡ reading halves
 
+-- Whatever the part byte names, a reading that is answered is exact, and is some half degrees.
+exact-sound : (k : Fact → Standing) (start : ℕ) (r : Answer) (f : Float) → r ≡ Reading f → TellsSound k start r → ExactReading k start f
+exact-sound k start r f e (good sound (good few a)) =
+    let (h, said, v) = subst (λ (x : Answer). Says x (temperatureOf k start)) e (a .says) in
+    let w = reading-known (k lights) (k digits) (λ i. k (dcram i)) start h said in
+    record { halves = h; float = v; double = double-whole f h v; few = spelled-few (w .five) h (w .spells); told = said }
+exact-sound k start r f e (good sound (bad n a)) = absurd (let z = sym (a .numbered) ∙ ap number e in omega arith)
+exact-sound k start r f e (bad n a) = absurd (let z = sym (a .numbered) ∙ ap number e in omega arith)
+
+pub answer-halved : (q : PartRead) (k : Panel) (start : ℕ) (r : Answer) → Tells q k start r → (f : Float) → r ≡ Reading f → Halved f
+answer-halved (Is Pt6302) k start r met f e =
+    let x = exact-sound (knownOf Pt6302 k) start r f e met in
+    let few = x .few in
+    record { negative = few .negative; halves = few .size; few = let m = few .most in omega arith; exact = subst (InHalves f) (few .is) (x .float) }
+answer-halved (Is Pt6312) k start r met f e = absurd (let z = sym (met .numbered) ∙ ap number e in omega arith)
+answer-halved (Is Pt6315) k start r met f e = absurd (let z = sym (met .numbered) ∙ ap number e in omega arith)
+answer-halved (Refused at) k start r met f e = absurd (let z = sym (met .numbered) ∙ ap number e in omega arith)
+
 -- A chip, as what is known by who knows all of it.
 abbrev pub wholly : (Fact → ℕ) → Fact → Standing
 wholly c f = known (c f)
@@ -195,15 +214,7 @@ module _ (b : ℕ) (named : partOf b ≡ Is Pt6302) (k : Panel) (start : ℕ) (r
 
   -- "The f32 is exact."
   pub reading-exact : (f : Float) → r ≡ Reading f → ExactReading (knownOf Pt6302 k) start f
-  reading-exact f e = go promised
-    where
-      go : TellsSound (knownOf Pt6302 k) start r → ExactReading (knownOf Pt6302 k) start f
-      go (good sound (good few a)) =
-          let (h, said, v) = subst (λ (x : Answer). Says x (temperatureOf (knownOf Pt6302 k) start)) e (a .says) in
-          let w = reading-known (knownOf Pt6302 k lights) (knownOf Pt6302 k digits) (λ i. knownOf Pt6302 k (dcram i)) start h said in
-          record { halves = h; float = v; double = double-whole f h v; few = spelled-few (w .five) h (w .spells); told = said }
-      go (good sound (bad n a)) = absurd (let z = sym (a .numbered) ∙ ap number e in omega arith)
-      go (bad n a) = absurd (let z = sym (a .numbered) ∙ ap number e in omega arith)
+  reading-exact f e = exact-sound (knownOf Pt6302 k) start r f e promised
 
   -- A reading is given only where lights, digits and the five cells are known, the field is lit, within the digits in
   -- use, and spells it;

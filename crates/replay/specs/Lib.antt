@@ -1,3 +1,4 @@
 pub mod Replay
+pub mod FromNothing
 pub mod Unique
 pub mod ByPart

@@ -5,8 +5,9 @@ use lib.ListN.{length-append}
 use Rattle.terms.specs.Part.{partOf}
 use Rattle.listing.specs.Memory.{memory}
 use Rattle.page.specs.Page.{doneAt}
+use Rattle.refusals.specs.Refusal.{refused-length}
 use Rattle.writing.specs.Laws.{writes-then}
-use Rattle.page.specs.Lengths.{done-length, refused-length}
+use Rattle.page.specs.Lengths.{done-length}
 use Rattle.page.specs.Laws.{page-done, page-refused, prints, prints-nothing}
 use borrow.Author.Needs.{needs}
 use Rattle.page.proofs.pages.write_page.Statement.{statement}

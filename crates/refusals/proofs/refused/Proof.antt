@@ -1,9 +1,9 @@
--- `page::pages::refused` meets its contract: the words, the number, the place and the end of the line stand one behind the other.
+-- `refusals::refused` meets its contract: the words, the number, the place and the end of the line stand one behind the other.
 -- Assumes nothing.
 use Rattle.writing.specs.Laws.{writes-then}
 use borrow.Author.Needs.{needs}
-use Rattle.page.proofs.pages.refused.Statement.{statement}
-use Rattle.page.proofs.pages.refused.Tie as tie
+use Rattle.refusals.proofs.refused.Statement.{statement}
+use Rattle.refusals.proofs.refused.Tie as tie
 
 slice-aggregate-words : tie.Need-slice-aggregate-words
 slice-aggregate-words c = search needs

@@ -1,0 +1,48 @@
+-- `print` is safe: the line is no longer than what it was written to. Assumes nothing.
+use mathlib.Core.Path.{sym}
+use lib.Seq.{length-take-le}
+use Rattle.thermo.specs.Thermo.{shows-within}
+use borrow.Author.Needs.{needs}
+use Rattle.thermo.proofs.print.Statement.{statement}
+use Rattle.thermo.proofs.print.Tie as tie
+
+slice-aggregate-read-off : tie.Need-slice-aggregate-read-off
+slice-aggregate-read-off c = search needs
+
+read-off-requires : tie.Need-read-off-requires
+read-off-requires c κs = search needs
+
+array-share-prefix-out : tie.Need-array-share-prefix-out
+array-share-prefix-out c = shows-within (c .before .read-off .ensures)
+
+slice-aggregate-write-all : tie.Need-slice-aggregate-write-all
+slice-aggregate-write-all c = sym (length-take-le _ _ (shows-within (c .before .before .read-off .ensures)))
+
+write-all-requires : tie.Need-write-all-requires
+write-all-requires c κs = search needs
+
+slice-aggregate-fail : tie.Need-slice-aggregate-fail
+slice-aggregate-fail c = search needs
+
+fail-requires : tie.Need-fail-requires
+fail-requires c κs = search needs
+
+returns : tie.Need-returns
+returns c = search needs
+
+returns-2 : tie.Need-returns-2
+returns-2 c = search needs
+
+pub print-spec : {M : Type 1} → statement M
+print-spec =
+    tie.close
+    (tie.spec
+    slice-aggregate-read-off
+    read-off-requires
+    array-share-prefix-out
+    slice-aggregate-write-all
+    write-all-requires
+    slice-aggregate-fail
+    fail-requires
+    returns
+    returns-2)
