@@ -3,7 +3,7 @@
 /// The longest recording that is taken.
 pub const LONGEST: usize = 65_535;
 
-/// What a replay gives back, and an update: a number from the paper's table, and a place counted from the
+/// What a replay gives back, an update and a temperature: a number from the papers' table, and a place counted from the
 /// recording's front.
 #[derive(Clone, Copy, Debug, PartialEq, Eq)]
 pub struct Answer {
@@ -22,6 +22,7 @@ impl Answer {
     pub const BODY_CUT_SHORT: u8 = 7;
     pub const BODY_NOT_ALLOWED: u8 = 8;
     pub const OUTPUT_TOO_SMALL: u8 = 10;
+    pub const FIELD_STARTS_TOO_HIGH: u8 = 11;
 
     pub fn done(length: usize) -> Self {
         Answer {

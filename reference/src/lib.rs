@@ -5,13 +5,18 @@
 //! earlier knowledge comes out of the event with the same value.
 //!
 //! An update, which is paper 02's (M-102), sends a panel only those wanted cells that it is not known to have.
+//! A temperature (M-103) is what five cells in a row are known to show.
 
 pub mod answer;
 pub mod cells;
 pub mod character_panel;
 pub mod checksum;
+pub mod damage;
+pub mod example_lines;
+pub mod example_temperatures;
 pub mod example_updates;
 pub mod fact;
+pub mod input;
 pub mod key_panel;
 pub mod knowledge;
 pub mod painting;
@@ -19,8 +24,14 @@ pub mod random;
 pub mod recording;
 pub mod replay;
 pub mod show;
+pub mod temperature;
+pub mod thermo_input;
+pub mod trial_field_recordings;
+pub mod trial_fields;
 pub mod trial_inputs;
 pub mod trial_recordings;
+pub mod trial_temperatures;
+pub mod trial_thermo_inputs;
 pub mod trial_updates;
 pub mod update;
 pub mod work_loads;

@@ -1,8 +1,9 @@
-//! What the program prints: the answer, then the memory.
+//! What the programs print: the mirror its answer, then the memory; the thermometer a single line.
 
 use crate::answer::Answer;
 use crate::character_panel::COLUMNS;
 use crate::knowledge::Knowledge;
+use crate::temperature::{Field, Temperature};
 use std::fmt::Write;
 
 /// A refusal is a single line; what is known is shown only behind a replay that was done.
@@ -11,7 +12,30 @@ pub fn report(answer: Answer, knowledge: Option<&Knowledge>) -> String {
         Some(knowledge) if answer.number == Answer::DONE => {
             format!("done at {}\n{}", answer.place, memory(knowledge))
         }
-        _ => format!("refused {} at {}\n", answer.number, answer.place),
+        _ => refusal(answer),
+    }
+}
+
+/// The field, unless it was refused.
+pub fn temperature_line(temperature: &Temperature) -> String {
+    match temperature.answer.number {
+        Answer::DONE => field_in_words(temperature.field) + "\n",
+        _ => refusal(temperature.answer),
+    }
+}
+
+fn refusal(answer: Answer) -> String {
+    format!("refused {} at {}\n", answer.number, answer.place)
+}
+
+/// A reading in degrees with one decimal, which is all that half degrees need.
+pub fn field_in_words(field: Field) -> String {
+    match field {
+        Field::Reading(degrees) => format!("{degrees:.1}"),
+        Field::NoReading => "no reading".into(),
+        Field::Dark => "dark".into(),
+        Field::Unknown => "unknown".into(),
+        Field::NotAReading => "not a reading".into(),
     }
 }
 

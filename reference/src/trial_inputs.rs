@@ -1,6 +1,7 @@
 //! Inputs on which two programs are compared: a part byte and a recording, good or damaged.
 
 use crate::answer::LONGEST;
+use crate::damage::{bad_record, byte_changed, cut_short};
 use crate::knowledge::{PT6302, PT6312, PT6315};
 use crate::random::Random;
 use crate::trial_recordings::any_recording;
@@ -65,18 +66,6 @@ fn good_input(part: u8, length: usize, random: &mut Random) -> Vec<u8> {
     input
 }
 
-fn byte_changed(mut input: Vec<u8>, random: &mut Random) -> Vec<u8> {
-    let at = random.below(input.len());
-    input[at] = random.byte();
-    input
-}
-
-fn cut_short(mut input: Vec<u8>, random: &mut Random) -> Vec<u8> {
-    let cut = random.below(6).min(input.len());
-    input.truncate(input.len() - cut);
-    input
-}
-
 /// The same recording for another part, or for none.
 fn with_other_part(mut input: Vec<u8>, random: &mut Random) -> Vec<u8> {
     input[0] = match random.below(3) {
@@ -92,23 +81,4 @@ fn with_bad_record(part: u8, length: usize, random: &mut Random) -> Vec<u8> {
     input.extend(bad_record(random));
     input.extend(any_recording(part, length / 2, random));
     input
-}
-
-/// Some of these are bad for one part only, or when they stand at the end.
-fn bad_record(random: &mut Random) -> Vec<u8> {
-    let byte = random.byte();
-    match random.below(12) {
-        0 => vec![0x00],
-        1 => vec![0x0A],
-        2 => vec![0xFF],
-        3 => vec![byte],
-        4 => vec![0x06, 0x00],
-        5 => vec![0x06, 0x08],
-        6 => vec![0x06, byte],
-        7 => vec![0x08, 0x10],
-        8 => vec![0x08, byte],
-        9 => vec![0x07, 0x12, 0x34, 0x05, byte],
-        10 => vec![0x09],
-        _ => vec![0x08, byte & 0x0F],
-    }
 }

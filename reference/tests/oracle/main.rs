@@ -1,4 +1,5 @@
-//! Holds the replay against an oracle that goes through every chip, and the update against a few chips each.
+//! Holds the replay against an oracle that goes through every chip, and the update and the temperature against a few
+//! chips each.
 
 mod cases;
 mod character_chip;
@@ -6,6 +7,7 @@ mod character_facts;
 mod join;
 mod key_chip;
 mod key_facts;
+mod temperatures;
 mod updates;
 
 use cases::{any_case, Trial};

@@ -1,0 +1,151 @@
+//! Lines of the sections `updates` and `temperatures` of the program `panel_examples`, as far as they are alike.
+//!
+//! A line has a part byte; words that say what is known, which is everything unless they say otherwise; a number behind
+//! an `@`, or none; and bytes. All numbers are in hex.
+
+use std::collections::BTreeMap;
+
+pub struct Line {
+    pub part: u8,
+    pub words: Vec<Word>,
+    /// The number behind the `@`.
+    pub number: Option<usize>,
+    pub bytes: Vec<u8>,
+}
+
+impl Line {
+    /// A line that is none is a mistake of whoever made it.
+    pub fn read(line: &str) -> Self {
+        let mut pieces = line.split(' ');
+        let mut read = Line {
+            part: byte_in(pieces.next().expect("a line has a part byte")),
+            words: Vec::new(),
+            number: None,
+            bytes: Vec::new(),
+        };
+        for piece in pieces {
+            if let Some(number) = piece.strip_prefix('@') {
+                read.number = Some(number_in(number));
+            } else if piece.starts_with(|first: char| first.is_ascii_lowercase()) {
+                read.words.push(Word::read(piece));
+            } else {
+                read.bytes.push(byte_in(piece));
+            }
+        }
+        read
+    }
+}
+
+/// What is said of one fact.
+pub struct Word {
+    /// Of a word's letters only the first counts.
+    pub name: char,
+    /// Single facts have the number 0.
+    pub at: usize,
+    pub saying: Saying,
+}
+
+#[derive(Clone, Copy)]
+pub enum Saying {
+    Known(u8),
+    Unknown,
+    /// The address past the last cell.
+    Invalid,
+    /// Neither known nor unknown.
+    Neither,
+}
+
+impl Word {
+    /// A word has letters, a number or none, and `?`, `!` or `=` and a value or none.
+    fn read(word: &str) -> Self {
+        let rest = word.trim_start_matches(|letter: char| letter.is_ascii_lowercase());
+        let mark = rest.find(['?', '!', '=']).unwrap_or(rest.len());
+        Word {
+            name: word.chars().next().expect("a word has a letter"),
+            at: number_in(&rest[..mark]),
+            saying: saying_in(&rest[mark..]),
+        }
+    }
+}
+
+/// What is said of a panel, by a word's first letter and its number.
+pub struct Told(BTreeMap<(char, usize), Saying>);
+
+impl Told {
+    /// Each single fact has a usual value.
+    pub fn everything(single_facts: &[(char, u8)]) -> Self {
+        let facts = single_facts.iter();
+        Told(
+            facts
+                .map(|&(name, value)| ((name, 0), Saying::Known(value)))
+                .collect(),
+        )
+    }
+
+    pub fn say(&mut self, name: char, at: usize, saying: Saying) {
+        self.0.insert((name, at), saying);
+    }
+
+    pub fn say_all(&mut self, name: char, length: usize, saying: Saying) {
+        for at in 0..length {
+            self.say(name, at, saying);
+        }
+    }
+
+    /// `nothing` speaks of every fact, and any other word of its own.
+    pub fn tell(&mut self, word: &Word) {
+        match word.name {
+            'n' => self.0.values_mut().for_each(|fact| *fact = Saying::Unknown),
+            _ => self.say(word.name, word.at, word.saying),
+        }
+    }
+
+    pub fn saying(&self, name: char, at: usize) -> Saying {
+        self.0[&(name, at)]
+    }
+
+    /// None, as below, where a fact is said to be what it cannot be held as here.
+    pub fn byte(&self, name: char, at: usize) -> Option<Option<u8>> {
+        match self.saying(name, at) {
+            Saying::Known(value) => Some(Some(value)),
+            Saying::Unknown => Some(None),
+            Saying::Invalid | Saying::Neither => None,
+        }
+    }
+
+    pub fn row<const N: usize>(&self, name: char) -> Option<[Option<u8>; N]> {
+        let mut row = [None; N];
+        for (at, fact) in row.iter_mut().enumerate() {
+            *fact = self.byte(name, at)?;
+        }
+        Some(row)
+    }
+
+    /// A fact that is no number, whose values stand in the order of the numbers that words use.
+    pub fn one_of<T: Copy>(&self, name: char, values: &[T]) -> Option<Option<T>> {
+        match self.byte(name, 0)? {
+            Some(number) => values.get(usize::from(number)).map(|&value| Some(value)),
+            None => Some(None),
+        }
+    }
+}
+
+fn saying_in(text: &str) -> Saying {
+    match text.strip_prefix('=') {
+        Some(value) => Saying::Known(byte_in(value)),
+        None if text == "!" => Saying::Neither,
+        None => Saying::Unknown,
+    }
+}
+
+fn byte_in(digits: &str) -> u8 {
+    u8::from_str_radix(digits, 16).unwrap_or_else(|_| panic!("no byte in hex: {digits}"))
+}
+
+fn number_in(digits: &str) -> usize {
+    match digits {
+        "" => 0,
+        _ => usize::from_str_radix(digits, 16)
+            .unwrap_or_else(|_| panic!("no number in hex: {digits}")),
+    }
+}
