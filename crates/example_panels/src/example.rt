@@ -3,7 +3,7 @@ use crate::memory::put;
 use example_text::Word;
 
 pub struct Example {
-    // The first letter of the section that it stands in: events, recordings, packets or updates.
+    // The first letter of the section that it stands in: events, recordings, packets, updates or temperatures.
     pub section: u8,
     // The part byte, which holds for the packets behind its line, too.
     pub part: u8,

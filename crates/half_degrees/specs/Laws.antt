@@ -5,12 +5,12 @@ use Prim.Native.Nat.{ℕ, zero, suc, _+_, _*_, _%_, _^_, _<_}
 use native.Mathlib.Nat.{mul-assoc, mul-comm, mul-one, mul-left-comm, mul-right-comm, zero-mul, mul-pos, zero-lt-suc, pow-succ', pow-suc, eq-of-mul-eq-mul-right}
 use native.Mathlib.Omega.{arith}
 use mathlib.Core.Path.{_≡_, refl, sym, ap, _∙_, subst}
-use mathlib.Core.Bool.{Bool, true, false, Bool·beq, cond, _&&_, true≢false}
+use mathlib.Core.Bool.{Bool, true, false, not, _&&_, true≢false}
 use lib.IntN.{ℤ, pos, negsuc}
 use lib.Dec.{T, eqb, ltb, leb, eqb→eq}
 use borrow.Author.Tests.{eqb-true}
 use lib.Pow.{pow-add}
-use lib.Ieee.{Float, nan, inf, fin, Format, binary32, prec, emax, low, up, down, round, sum, add, eq, ofInt, fits, toBits}
+use lib.Ieee.{Float, nan, inf, fin, Format, binary32, prec, emax, low, up, down, round, sum, add, eq, ofInt, fits, toBits, isNan}
 use lib.Ieee.Fits.{up-pos, down-pos, and-l}
 use lib.Ieee.Exact.{HasValue}
 use lib.Ieee.Back.{whole-unique}
@@ -170,3 +170,15 @@ under-nought f n w v = go (w .negative) (w .halves) (w .exact)
     go false m u = absurd (true≢false (one-size f true false n m v u .0))
     go true zero u = absurd (true≢false (one-size f true false n 0 v u .0))
     go true (suc m) u = (m, one-size f true true n (suc m) v u .1, u)
+
+-- Some half degrees are a number.
+pub halved-number : (f : Float) → Halved f → T (not (isNan f))
+unfolding isNan
+halved-number f w = go f (w .negative) (w .halves) (w .exact)
+  where
+    go : (f : Float) (s : Bool) (n : ℕ) → InHalves f (signed s n) → T (not (isNan f))
+    go nan false n v = absurd v
+    go nan true zero v = absurd v
+    go nan true (suc n) v = absurd v
+    go (inf t) s n v = tt
+    go (fin t m e) s n v = tt

@@ -1,7 +1,7 @@
 // Runs the examples of the file stdin, a line each, and writes each line back with what it comes to. It is compared with the file stdout, whose values
-// are from paper 01, and of packets, the ring of cells and updates from paper 02 (M-100, M-101, M-102).
+// are from paper 01, and of packets, the ring of cells, updates and temperatures from paper 02 (M-100 to M-103).
 //
-// A line that is a name, events, recordings, packets or updates, says what the lines behind it are; a line that begins with # is a remark. Every other line begins
+// A line that is a name, events, recordings, packets, updates or temperatures, says what the lines behind it are; a line that begins with # is a remark. Every other line begins
 // with a part byte, or is a packet and begins with /. Bytes are in hex, with a space between; words say what is known before, and their numbers are in hex.
 //     ( 03 5A )*FFFE   what stands between ( and ) is repeated until there are FFFEH bytes
 // The longest recordings and packets stand last among theirs, since the interpreter of `rt try` has not steps enough for them.
@@ -22,6 +22,7 @@ use feed::opened;
 use input::Input;
 use input::read_input;
 use libc::STDERR_FILENO;
+use panel::Panel;
 
 // A byte more than is taken shows that the input is longer.
 fn main() {
@@ -81,7 +82,13 @@ fn comes_to(feed: Feed, example: Example, bytes: &[u8]) -> Feed {
         b'e' => events::run(example.part, feed.panel, bytes),
         b'r' => recordings::run(example, feed.panel, bytes),
         b'u' => updates::run(example, feed.panel, bytes),
+        b't' => temperatures(example, feed.panel, bytes),
         _ => return packeted::run(example, feed, bytes),
     }
     feed
+}
+
+fn temperatures(example: Example, panel: Panel, bytes: &[u8]) {
+    let start = (example.start.number % 256) as u8;
+    example_temperatures::run(example.part, panel, start, bytes);
 }

@@ -1,14 +1,17 @@
 -- What is printed of a temperature: the degrees of a reading, or in words why there is none; "a refusal prints only
 -- `refused N at P`".
-use Prim.Native.Nat.{ℕ, suc, _+_, _*_, _/_, _%_}
+use Prim.Native.Nat.{ℕ, suc, _+_, _*_, _/_, _%_, _≤_}
 use Prim.Native.Char.{code}
 use mathlib.Core.Path.{_≡_, refl, subst, subst⁻¹}
 use mathlib.Core.Bool.{true}
 use mathlib.Core.List.{List, [], _∷_, _++_}
+use native.Mathlib.Omega.{arith}
+use lib.ListN.{length}
 use lib.IntN.{ℤ, pos, negsuc}
 use lib.Ieee.{Float}
 use lib.Ieee.Exact.{HasValue}
 use Rattle.writing.specs.Writes.{Writes}
+use Rattle.writing.specs.Laws.{writes-length}
 use Rattle.text.specs.Text.{newline, decimal}
 use Rattle.refusals.specs.Refusal.{refusedAt}
 use Rattle.half_degrees.specs.Half.{InHalves, Halved}
@@ -75,6 +78,10 @@ pub record Degrees (f : Float) (out : List ℕ) (r : ℕ) (out′ : List ℕ) : 
   pub halves : ℤ
   pub exact : InHalves f halves
   pub written : Writes out 0 (degrees halves) r out′
+
+-- What was written is never longer than the output.
+pub written-within : {text out : List ℕ} {r : ℕ} {out′ : List ℕ} → Writes out 0 text r out′ → r ≤ length out′
+written-within w = omega (arith, w .place, writes-length w)
 
 -- A minus and the size of a float below nought are its degrees.
 pub written-under : {out : List ℕ} {r : ℕ} {out′ : List ℕ} (f : Float) (n : ℕ) → Halved f → HasValue f true n 2

@@ -1,6 +1,5 @@
 -- What the program makes of its input: the replay by who knows nothing, and then the temperature of the field, as a line.
-use Prim.Native.Nat.{ℕ, _+_, _≤_}
-use native.Mathlib.Omega.{arith}
+use Prim.Native.Nat.{ℕ, _≤_}
 use mathlib.Core.Path.{_≡_}
 use mathlib.Core.List.{List}
 use lib.ListN.{length}
@@ -14,9 +13,8 @@ use Rattle.replay.specs.FromNothing.{FromNothing}
 use Rattle.thermometer.specs.declared.temperatures.Answer.{Answer}
 use Rattle.thermometer.specs.Answer.{Tells}
 use Rattle.refusals.specs.Refusal.{refusedAt}
-use Rattle.temperature_line.specs.Line.{WritesLine}
+use Rattle.temperature_line.specs.Line.{WritesLine, written-within}
 use Rattle.writing.specs.Writes.{Writes}
-use Rattle.writing.specs.Laws.{writes-length}
 
 -- The line of the temperature of a field.
 pub record Told (q : PartRead) (k : Panel) (start : ℕ) (out : List ℕ) (r : ℕ) (out′ : List ℕ) : Type 0 where
@@ -33,12 +31,9 @@ pub record Shows (part start : ℕ) (recording out : List ℕ) (r : ℕ) (out′
       (Writes out 0 (refusedAt (number (after .answer)) (place (after .answer))) r out′)
 
 -- The line is never longer than the output.
-within : {text out : List ℕ} {r : ℕ} {out′ : List ℕ} → Writes out 0 text r out′ → r ≤ length out′
-within w = omega (arith, w .place, writes-length w)
-
 pub shows-within : {part start : ℕ} {recording out : List ℕ} {r : ℕ} {out′ : List ℕ} → Shows part start recording out r out′ → r ≤ length out′
 shows-within {r = r} {out′ = out′} s = go (s .line)
   where
     go : {G : Type 0} {q : PartRead} {k : Panel} {start : ℕ} {out text : List ℕ} → Where G (Told q k start out r out′) (Writes out 0 text r out′) → r ≤ length out′
-    go (good g t) = within (t .line .written)
-    go (bad n w) = within w
+    go (good g t) = written-within (t .line .written)
+    go (bad n w) = written-within w

@@ -22,7 +22,7 @@ same-length : tie.Need-same-length
 same-length c = search needs
 
 returns : tie.Need-returns
-returns c = 
+returns c =
     rw (← c .before .before .before .before .before .part-byte .ensures, ← c .before .before .before .before .start-byte .ensures, ← c .before .before .before .before .before .before .before .recording-of .ensures, ← c .before .before .before .before .before .before .recording-of2 .ensures)
     (c .before .before .shown .ensures)
 

@@ -18,7 +18,7 @@ same-length : tie.Need-same-length
 same-length c = search needs
 
 returns : tie.Need-returns
-returns c = 
+returns c =
     let f = c .before .before .before .before .before .before .before .from-nothing in
     let t = c .before .before .before .before .before .before .told-of .ensures in
     record { after = f .result; replayed = f .ensures; line = good (sym (t .0) ∙ c .before .before .before .before .if1 .taken) (c .before .before .told .ensures) }
@@ -30,7 +30,7 @@ same-length-2 : tie.Need-same-length-2
 same-length-2 c = search needs
 
 returns-2 : tie.Need-returns-2
-returns-2 c = 
+returns-2 c =
     let f = c .before .before .before .before .before .before .before .from-nothing in
     let t = c .before .before .before .before .before .before .told-of .ensures in
     record {

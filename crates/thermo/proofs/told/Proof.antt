@@ -10,7 +10,7 @@ temperature-requires : tie.Need-temperature-requires
 temperature-requires c κs = search needs
 
 write-line-requires : tie.Need-write-line-requires
-write-line-requires c κs = 
+write-line-requires c κs =
     let a = c .before .before .before .args in
     let t = c .before .temperature in
     sound-as (t .result) (answer-halved (partOf (a .part)) (a .panel) (a .start .0) (t .result) (t .ensures))

@@ -1,0 +1,35 @@
+-- `run` is safe: what `temperature` answers is some half degrees where it is a reading. Assumes nothing.
+use Rattle.terms.specs.Part.{partOf}
+use Rattle.readings.specs.Reading.{answer-halved}
+use Rattle.temperature_line.specs.Line.{sound-as}
+use borrow.Author.Needs.{needs}
+use Rattle.example_temperatures.proofs.run.Statement.{statement}
+use Rattle.example_temperatures.proofs.run.Tie as tie
+
+with-field-requires : tie.Need-with-field-requires
+with-field-requires c κs = search needs
+
+with-character-requires : tie.Need-with-character-requires
+with-character-requires c κs = search needs
+
+temperature-requires : tie.Need-temperature-requires
+temperature-requires c κs = search needs
+
+tell-requires : tie.Need-tell-requires
+tell-requires c κs =
+    let a = c .before .before .before .before .args in
+    let t = c .temperature in
+    sound-as (t .result) (answer-halved (partOf (a .part)) (c .before .with-character .result) (a .start) (t .result) (t .ensures))
+
+returns : tie.Need-returns
+returns c = search needs
+
+pub run-spec : {M : Type 1} → statement M
+run-spec =
+    tie.close
+    (tie.spec
+    with-field-requires
+    with-character-requires
+    temperature-requires
+    tell-requires
+    returns)
