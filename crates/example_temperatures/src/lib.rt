@@ -15,13 +15,13 @@ use half_degrees::Halves;
 use half_degrees::halves_of;
 use panel::Panel;
 use panel::with_character;
-use temperature_line::write_degrees;
+use temperature_line::write_line;
 use terms::Address;
 use terms::Place;
 use thermometer::Answer;
 use thermometer::temperature;
 ghost use Rattle.half_degrees.specs.Half.{Halved};
-ghost use Rattle.temperature_line.specs.Line.{Sound};
+ghost use Rattle.temperature_line.specs.Line.{Printable};
 
 pub fn run(part: u8, panel: Panel, start: u8, bytes: &[u8]) {
     let known = with_field(panel.character, start, bytes);
@@ -61,7 +61,7 @@ fn code_at(bytes: &[u8], i: usize) -> u16 {
 }
 
 fn tell(answer: Answer)
-    requires { ⌜ Sound answer ⌝ }
+    requires { ⌜ Printable answer ⌝ }
 {
     match answer {
         Answer::Reading(degrees) => reads(degrees),
@@ -86,7 +86,7 @@ fn reads(degrees: f32)
     text(b"\n    reads");
     bits(f32::to_bits(degrees));
     counted(halves_of(degrees));
-    in_words(degrees);
+    in_words(Answer::Reading(degrees));
 }
 
 // The highest byte first.
@@ -105,11 +105,15 @@ fn counted(halves: Halves) {
     decimal(halves.1 as usize);
 }
 
-fn in_words(degrees: f32)
-    requires { ⌜ Halved degrees ⌝ }
+// The line of the answer, without its end.
+fn in_words(answer: Answer)
+    requires { ⌜ Printable answer ⌝ }
 {
-    let mut out = [0u8; 24];
-    let length = write_degrees(degrees, &mut out);
+    let mut out = [0u8; temperature_line::ROOM];
+    let length = write_line(answer, &mut out);
     text(b", degrees ");
-    text(&out[..length]);
+    if 0 < length {
+        let end = length - 1;
+        text(&out[..end]);
+    }
 }

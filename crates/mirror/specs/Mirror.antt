@@ -5,10 +5,11 @@ use mathlib.Core.List.{List}
 use Rattle.terms.specs.Part.{partOf}
 use Rattle.replay.specs.declared.replays.Replayed.{Replayed}
 use Rattle.replay.specs.FromNothing.{FromNothing}
-use Rattle.page.specs.Page.{page, Prints}
+use Rattle.writing.specs.Prints.{Prints}
+use Rattle.page.specs.Page.{page, room}
 
--- The page of the replay by who knows nothing is what is written, where the output has room (`page/Page.Prints`).
+-- The page of the replay by one who knows nothing is what is written, where the output has room.
 pub record Shows (part : ℕ) (recording out : List ℕ) (r : ℕ) (out′ : List ℕ) : Type 0 where
   pub after : Replayed
   pub replayed : FromNothing part recording after
-  pub printed : Prints (page (partOf part) (after .answer) (after .panel)) out r out′
+  pub printed : Prints room (page (partOf part) (after .answer) (after .panel)) out r out′

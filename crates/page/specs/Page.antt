@@ -1,9 +1,7 @@
 -- What the program prints of a replay (paper 01, the last paragraph of "Examples").
-use Prim.Native.Nat.{ℕ, zero, suc, _<_, _≤_}
+use Prim.Native.Nat.{ℕ, zero, suc}
 use Prim.Native.Char.{code}
-use mathlib.Core.Path.{_≡_}
 use mathlib.Core.List.{List, [], _∷_, _++_}
-use lib.ListN.{length, drop}
 use Rattle.terms.specs.declared.PartRead.{PartRead}
 use Rattle.panel.specs.declared.knowledge.Panel.{Panel}
 use Rattle.answers.specs.declared.Answer.{Answer}
@@ -26,12 +24,6 @@ printed q (suc n) p k = refusedAt (suc n) p
 abbrev pub page : PartRead → Answer → Panel → List ℕ
 page q answer k = printed q (number answer) (place answer) k
 
--- Enough for every page.
+-- Enough for every page (`writing/Prints`).
 abbrev pub room : ℕ
 room = 300
-
--- The page stands at the front of the output, the rest is as it was, and the answer is the page's length. With less
--- room than that, nothing is written, and the answer is 0.
-pub record Prints (text out : List ℕ) (r : ℕ) (out′ : List ℕ) : Type 0 where
-  pub roomy : room ≤ length out → (r ≡ length text) × (out′ ≡ text ++ drop (length text) out)
-  pub tight : length out < room → (r ≡ 0) × (out′ ≡ out)

@@ -10,7 +10,8 @@ use writing::put;
 use writing::words;
 ghost use Rattle.terms.specs.Part.{partOf};
 ghost use Rattle.writing.specs.Writes.{Writes};
-ghost use Rattle.page.specs.Page.{doneAt, page, Prints};
+ghost use Rattle.writing.specs.Prints.{Prints};
+ghost use Rattle.page.specs.Page.{doneAt, page, room};
 
 // Enough for every page.
 pub const ROOM: usize = 300;
@@ -18,7 +19,7 @@ pub const ROOM: usize = 300;
 // Writes the page of a replay of that part to the front of `out`, and gives its length. Where `out` has less than ROOM bytes nothing is written, and the
 // length is 0.
 pub fn write_page(part: u8, answer: Answer, panel: Panel, out: &mut [u8]) -> usize
-    ensures { λ r. ⌜ Prints (page (partOf part) answer panel) (now (out .entry)) r (now (out .exit)) ⌝ }
+    ensures { λ r. ⌜ Prints room (page (partOf part) answer panel) (now (out .entry)) r (now (out .exit)) ⌝ }
 {
     if out.len() < ROOM {
         return 0;

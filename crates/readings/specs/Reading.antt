@@ -33,7 +33,7 @@ use Rattle.thermometer.specs.declared.temperatures.Answer.{Answer}
 use Rattle.thermometer.specs.declared.temperatures.Answer.the-variants.{Reading}
 use Rattle.thermometer.specs.Answer.{number, Says, Reads, Answers, temperatureOf, TellsField, TellsSound, Tells}
 use Rattle.thermometer.specs.Laws.{tells-as}
-use Rattle.thermometer.specs.Shown.{fieldOf, Shows, KnownToShow}
+use Rattle.thermometer.specs.Shown.{fieldOf, Shows, ShownBy, KnownToShow}
 use Rattle.thermometer.specs.Unique.{Fitting, by-said, same-said}
 use Rattle.readings.specs.Told.{Known, reading-known, known-reading, AtLeast, told-more}
 
@@ -96,21 +96,26 @@ module _ (k : Fact → Standing) (start : ℕ) (h : ℤ) where
   value-is : (s : Standing) (v w : ℕ) → isKnown s v ≡ true → Agrees s w → w ≡ v
   value-is s v w e a = subst (λ (x : Standing). Agrees x w) (is-known s v e) a
 
-  fits-shows : KnownToShow start h k → (c : Fact → ℕ) → Fits k c → Shows start h c
-  fits-shows w c fits =
-      let cells : fieldOf c start ≡ w .five =
-      λ i. record {
-        sign = value-is (k (dcram start)) (w .five .sign) (c (dcram start)) (w .sign) (fits (dcram start)) i;
-        tens = value-is (k (dcram (start + 1))) (w .five .tens) (c (dcram (start + 1))) (w .tens) (fits (dcram (start + 1))) i;
-        units = value-is (k (dcram (start + 2))) (w .five .units) (c (dcram (start + 2))) (w .units) (fits (dcram (start + 2))) i;
-        point = value-is (k (dcram (start + 3))) (w .five .point) (c (dcram (start + 3))) (w .point) (fits (dcram (start + 3))) i;
-        half = value-is (k (dcram (start + 4))) (w .five .half) (c (dcram (start + 4))) (w .half) (fits (dcram (start + 4))) i;
-      } in
-      record {
-        lit = value-is (k lights) (lit Normal) (c lights) (w .lit) (fits lights);
-        within = rw (value-is (k digits) (w .code) (c digits) (w .digits) (fits digits)) (w .within);
-        spells = ap spelled cells ∙ w .spells;
-      }
+  module _ (w : KnownToShow start h k) (c : Fact → ℕ) (fits : Fits k c) where
+    same-cells : fieldOf c start ≡ w .five
+    same-cells =
+        λ i. record {
+          sign = value-is (k (dcram start)) (w .five .sign) (c (dcram start)) (w .sign) (fits (dcram start)) i;
+          tens = value-is (k (dcram (start + 1))) (w .five .tens) (c (dcram (start + 1))) (w .tens) (fits (dcram (start + 1))) i;
+          units = value-is (k (dcram (start + 2))) (w .five .units) (c (dcram (start + 2))) (w .units) (fits (dcram (start + 2))) i;
+          point = value-is (k (dcram (start + 3))) (w .five .point) (c (dcram (start + 3))) (w .point) (fits (dcram (start + 3))) i;
+          half = value-is (k (dcram (start + 4))) (w .five .half) (c (dcram (start + 4))) (w .half) (fits (dcram (start + 4))) i;
+        }
+
+    fits-shows : Shows start h c
+    fits-shows = record {
+      lit = value-is (k lights) (lit Normal) (c lights) (w .lit) (fits lights);
+      within = rw (value-is (k digits) (w .code) (c digits) (w .digits) (fits digits)) (w .within);
+      spells = ap spelled same-cells ∙ w .spells;
+    }
+
+  known-shown : KnownToShow start h k → ShownBy start h (Fits k)
+  known-shown w = record { field = w .five; spells = w .spells; shown = fits-shows w; same = same-cells w }
 
 -- ---- what five cells spell
 
@@ -163,7 +168,7 @@ reads-says r h s (f, e, v) w =
     let (j, said, u) = subst (λ (x : Answer). Says x s) e w in
     said ∙ ap reading (one-number f j h u v)
 
--- An answer of a reading is what is told of the field, by who knows nothing out of range.
+-- An answer of a reading is what is told of the field, by one who knows nothing out of range.
 pub record FromField (k : Fact → Standing) (start : ℕ) (h : ℤ) : Type 0 where
   pub in-range : Sound range k
   pub a-field : start ≤ 11
@@ -201,7 +206,7 @@ answer-halved (Is Pt6312) k start r met f e = absurd (let z = sym (met .numbered
 answer-halved (Is Pt6315) k start r met f e = absurd (let z = sym (met .numbered) ∙ ap number e in omega arith)
 answer-halved (Refused at) k start r met f e = absurd (let z = sym (met .numbered) ∙ ap number e in omega arith)
 
--- A chip, as what is known by who knows all of it.
+-- A chip, as what is known by one who knows all of it.
 abbrev pub wholly : (Fact → ℕ) → Fact → Standing
 wholly c f = known (c f)
 
@@ -235,12 +240,10 @@ module _ (b : ℕ) (named : partOf b ≡ Is Pt6302) (k : Panel) (start : ℕ) (r
       go (good _ (bad n a)) = absurd (n few)
       go (bad n a) = absurd (n sound)
 
-  -- A reading is given only if every chip that fits shows that field, and no chip that fits shows another.
-  pub reading-is-shown : (h : ℤ) → Reads r h → (c : Fact → ℕ) → Fits (knownOf Pt6302 k) c
-      → Shows start h c × ((j : ℤ) → Shows start j c → j ≡ h)
-  reading-is-shown h reads c fits =
-      let shows = fits-shows (knownOf Pt6302 k) start h (reading-is-known h reads) c fits in
-      (shows, λ j other. shows-one start j h c other shows)
+  -- A reading is given only if every chip that fits shows that field, and no chip that fits shows another: there are five
+  -- bytes that spell it, and every chip that fits has them in those five cells, lit and within the digits in use.
+  pub reading-is-shown : (h : ℤ) → Reads r h → ShownBy start h (λ c. Fits (knownOf Pt6302 k) c)
+  reading-is-shown h reads = known-shown (knownOf Pt6302 k) start h (reading-is-known h reads)
 
   -- If the answer is a reading of nought, then every chip that fits shows, in those five cells, lit and within the digits
   -- in use, a field that spells nought.
@@ -249,37 +252,37 @@ module _ (b : ℕ) (named : partOf b ≡ Is Pt6302) (k : Panel) (start : ℕ) (r
   nought-is-shown f e nought c fits =
       let x = reading-exact f e in
       let reads : Reads r (pos 0) = (f, e, subst (InHalves f) (equals-nought f (x .halves) (x .float) nought) (x .float)) in
-      reading-is-shown (pos 0) reads c fits .0
+      reading-is-shown (pos 0) reads .shown c fits
 
   -- A field whose five cells are 2DH, on any chip that fits, never reads as a number.
   pub dashes-never-read : (c : Fact → ℕ) → Fits (knownOf Pt6302 k) c → allDashes (fieldOf c start) ≡ true
       → (f : Float) → r ≡ Reading f → ⊥
   dashes-never-read c fits d f e =
       let x = reading-exact f e in
-      dashes (fieldOf c start) (x .halves) d (reading-is-shown (x .halves) (f, e, x .float) c fits .0 .spells)
+      dashes (fieldOf c start) (x .halves) d (reading-is-shown (x .halves) (f, e, x .float) .shown c fits .spells)
 
-  -- What is known by who knows at least as much, and is in range, is answered the same, unless the answer said unknown.
-  module _ (more : Fact → Standing) (sound : Sound range (knownOf Pt6302 k)) (least : KnowsAtLeast (knownOf Pt6302 k) more) (n : Says r unknown → ⊥) where
+  -- By one who knows at least as much the same is told, unless the answer said unknown.
+  module _ (more : Fact → Standing) (least : KnowsAtLeast (knownOf Pt6302 k) more) (n : Says r unknown → ⊥) where
     same-told : TellsSound (knownOf Pt6302 k) start r → (start ≤ 11) × Answers 0 (temperatureOf more start) r
     same-told (good _ (good few a)) =
         let same = told-more _ _ _ _ _ _ start (least lights) (least digits) (λ i. least (dcram i)) (λ u. n (subst (Says r) u (a .says))) in
         (few, subst⁻¹ (λ (s : Said). Answers 0 s r) same a)
     same-told (good _ (bad m a)) = absurd (n (a .says))
-    same-told (bad m a) = absurd (m sound)
+    same-told (bad m a) = absurd (n (a .says))
 
   -- "More knowledge never changes an answer other than unknown."
   pub more-keeps : (k′ : Panel) (r′ : Answer) → Tells (partOf b) k′ start r′ → Fitting r → Fitting r′
-      → Sound range (knownOf Pt6302 k) → Sound range (knownOf Pt6302 k′) → KnowsAtLeast (knownOf Pt6302 k) (knownOf Pt6302 k′)
+      → Sound range (knownOf Pt6302 k′) → KnowsAtLeast (knownOf Pt6302 k) (knownOf Pt6302 k′)
       → (Says r unknown → ⊥) → r′ ≡ r
-  more-keeps k′ r′ met′ fit fit′ sound sound′ least n =
-      go (same-told (knownOf Pt6302 k′) sound least n promised) (tells-as (partOf b) (Is Pt6302) k′ start r′ named met′)
+  more-keeps k′ r′ met′ fit fit′ sound′ least n =
+      go (same-told (knownOf Pt6302 k′) least n promised) (tells-as (partOf b) (Is Pt6302) k′ start r′ named met′)
     where
       go : (start ≤ 11) × Answers 0 (temperatureOf (knownOf Pt6302 k′) start) r → TellsSound (knownOf Pt6302 k′) start r′ → r′ ≡ r
       go (few, a) (good _ (good _ q)) = same-said k′ start r′ r fit′ fit _ q a
       go (few, a) (good _ (bad m q)) = absurd (m few)
       go (few, a) (bad m q) = absurd (m sound′)
 
-  -- So an answer other than unknown is what is told of every chip that fits, by who knows all of it.
-  pub answer-is-shown : Sound range (knownOf Pt6302 k) → (Says r unknown → ⊥) → (c : Fact → ℕ) → Fits (knownOf Pt6302 k) c
+  -- So an answer other than unknown is what is told of every chip that fits, by one who knows all of it.
+  pub answer-is-shown : (Says r unknown → ⊥) → (c : Fact → ℕ) → Fits (knownOf Pt6302 k) c
       → Says r (temperatureOf (wholly c) start)
-  answer-is-shown sound n c fits = same-told (wholly c) sound (fits-less (knownOf Pt6302 k) c fits) n promised .1 .says
+  answer-is-shown n c fits = same-told (wholly c) (fits-less (knownOf Pt6302 k) c fits) n promised .1 .says

@@ -127,7 +127,7 @@ module _ (l l′ d d′ : Standing) (cell cell′ : ℕ → Standing) (start : �
   rest : Standing → Standing → (ℕ → Standing) → Said
   rest x y c = ifKnown x (λ _. ifKnown y (λ _. ifAll c start spelled))
 
-  -- Where it is lit and all is told of it, lights and digits are known, and so it is lit for who knows more.
+  -- Where it is lit and all is told of it, lights and digits are known, and so it is lit for one who knows more.
   lit-more : isDark l d start ≡ false → (rest l d cell ≡ unknown → ⊥) → isDark l′ d′ start ≡ false
   unfolding rest
   lit-more e n = go l d lights-more digits-more e n

@@ -7,7 +7,7 @@ use Rattle.panel.specs.View.{KnowsNothing}
 use Rattle.replay.specs.declared.replays.Replayed.{Replayed}
 use Rattle.replay.specs.Replay.{Replays}
 
--- The replay of the whole recording by who knows nothing.
+-- The replay of the whole recording by one who knows nothing.
 pub record FromNothing (part : ℕ) (recording : List ℕ) (r : Replayed) : Type 0 where
   pub before : Panel
   pub nothing : KnowsNothing before

@@ -1,4 +1,4 @@
-// The replay by who knows nothing: what the programs do.
+// The replay by one who knows nothing: what the programs do.
 use crate::replays::Replayed;
 use crate::replays::replay;
 use terms::Place;

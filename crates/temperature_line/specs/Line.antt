@@ -1,20 +1,18 @@
 -- What is printed of a temperature: the degrees of a reading, or in words why there is none; "a refusal prints only
 -- `refused N at P`".
-use Prim.Native.Nat.{ℕ, suc, _+_, _*_, _/_, _%_, _≤_}
+use Prim.Native.Nat.{ℕ, suc, _+_, _*_, _/_, _%_}
 use Prim.Native.Char.{code}
 use mathlib.Core.Path.{_≡_, refl, subst, subst⁻¹}
 use mathlib.Core.Bool.{true}
 use mathlib.Core.List.{List, [], _∷_, _++_}
-use native.Mathlib.Omega.{arith}
-use lib.ListN.{length}
 use lib.IntN.{ℤ, pos, negsuc}
 use lib.Ieee.{Float}
 use lib.Ieee.Exact.{HasValue}
 use Rattle.writing.specs.Writes.{Writes}
-use Rattle.writing.specs.Laws.{writes-length}
+use Rattle.writing.specs.Prints.{Prints}
 use Rattle.text.specs.Text.{newline, decimal}
 use Rattle.refusals.specs.Refusal.{refusedAt}
-use Rattle.half_degrees.specs.Half.{InHalves, Halved}
+use Rattle.half_degrees.specs.Half.{signed, InHalves, Halved}
 use Rattle.half_degrees.specs.Laws.{under-nought}
 use Rattle.thermometer.specs.declared.temperatures.Answer.{Answer}
 use Rattle.thermometer.specs.declared.temperatures.Answer.the-variants.{Reading, NoReading, Dark, Unknown, NotAReading, NoPart, OutOfRange, NoField}
@@ -47,25 +45,36 @@ pub lined-as : (a b : Answer) (line : List ℕ) → a ≡ b → Lined b line →
 lined-as a b line e h = subst⁻¹ (λ (x : Answer). Lined x line) e h
 
 -- A reading that is some half degrees.
-abbrev pub Sound : Answer → Type 0
-Sound (Reading f) = Halved f
-Sound NoReading = Unit
-Sound Dark = Unit
-Sound Unknown = Unit
-Sound NotAReading = Unit
-Sound (NoPart at) = Unit
-Sound (OutOfRange at) = Unit
-Sound (NoField at) = Unit
+abbrev pub Printable : Answer → Type 0
+Printable (Reading f) = Halved f
+Printable NoReading = Unit
+Printable Dark = Unit
+Printable Unknown = Unit
+Printable NotAReading = Unit
+Printable (NoPart at) = Unit
+Printable (OutOfRange at) = Unit
+Printable (NoField at) = Unit
 
-pub sound-as : (a : Answer) → ((f : Float) → a ≡ Reading f → Halved f) → Sound a
-sound-as (Reading f) h = h f refl
-sound-as NoReading h = tt
-sound-as Dark h = tt
-sound-as Unknown h = tt
-sound-as NotAReading h = tt
-sound-as (NoPart at) h = tt
-sound-as (OutOfRange at) h = tt
-sound-as (NoField at) h = tt
+pub printable-as : (a : Answer) → ((f : Float) → a ≡ Reading f → Halved f) → Printable a
+printable-as (Reading f) h = h f refl
+printable-as NoReading h = tt
+printable-as Dark h = tt
+printable-as Unknown h = tt
+printable-as NotAReading h = tt
+printable-as (NoPart at) h = tt
+printable-as (OutOfRange at) h = tt
+printable-as (NoField at) h = tt
+
+-- Every such answer has a line.
+pub a-line : (a : Answer) → Printable a → (line : List ℕ) × Lined a line
+a-line (Reading f) h = (degrees (signed (h .negative) (h .halves)) ++ (newline ∷ []), (signed (h .negative) (h .halves), h .exact, refl))
+a-line NoReading h = (_, refl)
+a-line Dark h = (_, refl)
+a-line Unknown h = (_, refl)
+a-line NotAReading h = (_, refl)
+a-line (NoPart at) h = (_, refl)
+a-line (OutOfRange at) h = (_, refl)
+a-line (NoField at) h = (_, refl)
 
 -- The line stands at the front, as far as there is room.
 pub record WritesLine (answer : Answer) (out : List ℕ) (r : ℕ) (out′ : List ℕ) : Type 0 where
@@ -79,10 +88,6 @@ pub record Degrees (f : Float) (out : List ℕ) (r : ℕ) (out′ : List ℕ) : 
   pub exact : InHalves f halves
   pub written : Writes out 0 (degrees halves) r out′
 
--- What was written is never longer than the output.
-pub written-within : {text out : List ℕ} {r : ℕ} {out′ : List ℕ} → Writes out 0 text r out′ → r ≤ length out′
-written-within w = omega (arith, w .place, writes-length w)
-
 -- A minus and the size of a float below nought are its degrees.
 pub written-under : {out : List ℕ} {r : ℕ} {out′ : List ℕ} (f : Float) (n : ℕ) → Halved f → HasValue f true n 2
     → Writes out 0 ((code "-" ∷ []) ++ sized n) r out′ → Degrees f out r out′
@@ -93,3 +98,13 @@ written-under {out} {r} {out′} f n w v h =
       exact = u .2;
       written = subst (λ (k : ℕ). Writes out 0 ((code "-" ∷ []) ++ sized k) r out′) (u .1) h;
     }
+
+-- Enough for every line.
+abbrev pub room : ℕ
+room = 64
+
+-- The line stands at the front whole, or nothing is written (`writing/Prints`).
+pub record PrintsLine (answer : Answer) (out : List ℕ) (r : ℕ) (out′ : List ℕ) : Type 0 where
+  pub line : List ℕ
+  pub lined : Lined answer line
+  pub printed : Prints room line out r out′

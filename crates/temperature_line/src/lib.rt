@@ -1,22 +1,45 @@
 // The line that is printed of a temperature.
 use half_degrees::halves_of;
 use refusals::refused;
+use terms::Place;
 use text::decimal;
 use thermometer::Answer;
 use writing::put;
 use writing::words;
-ghost use mathlib.Core.Path.{_≡_};
 ghost use Rattle.writing.specs.Writes.{Writes};
-ghost use Rattle.half_degrees.specs.Half.{signed, Halved};
-ghost use Rattle.temperature_line.specs.Line.{sized, Degrees, Sound, WritesLine};
+ghost use Rattle.writing.specs.Prints.{Prints};
+ghost use Rattle.refusals.specs.Refusal.{refusedAt};
+ghost use Rattle.half_degrees.specs.Half.{Halved};
+ghost use Rattle.temperature_line.specs.Line.{sized, Degrees, Printable, WritesLine, room, PrintsLine};
 
 // Enough for every line.
 pub const ROOM: usize = 64;
 
-// Writes the line to the front of `out`, as far as there is room, and gives the place behind it. A reading must be some half degrees, as every reading
-// is that `temperature` gives.
+// Writes the line to the front of `out`, and gives its length. Where `out` has less than ROOM bytes nothing is written, and the length is 0, since a number
+// that is cut would pass for another. A reading must be some half degrees, as every reading is that `temperature` gives.
 pub fn write_line(answer: Answer, out: &mut [u8]) -> usize
-    requires { ⌜ Sound answer ⌝ }
+    requires { ⌜ Printable answer ⌝ }
+    ensures { λ r. ⌜ PrintsLine answer (now (out .entry)) r (now (out .exit)) ⌝ }
+{
+    if out.len() < ROOM {
+        return 0;
+    }
+    write_said(answer, out)
+}
+
+// The line of any other refusal, likewise.
+pub fn write_refusal(number: u8, place: Place, out: &mut [u8]) -> usize
+    ensures { λ r. ⌜ Prints room (refusedAt number (place .0)) (now (out .entry)) r (now (out .exit)) ⌝ }
+{
+    let room = out.len();
+    if room < ROOM {
+        return 0;
+    }
+    refused(out, number, place)
+}
+
+fn write_said(answer: Answer, out: &mut [u8]) -> usize
+    requires { ⌜ Printable answer ⌝ }
     ensures { λ r. ⌜ WritesLine answer (now (out .entry)) r (now (out .exit)) ⌝ }
 {
     match answer {
@@ -34,8 +57,8 @@ pub fn write_line(answer: Answer, out: &mut [u8]) -> usize
     }
 }
 
-// Writes degrees for people to the front of `out`.
-pub fn write_degrees(degrees: f32, out: &mut [u8]) -> usize
+// Degrees for people.
+fn write_degrees(degrees: f32, out: &mut [u8]) -> usize
     requires { ⌜ Halved degrees ⌝ }
     ensures { λ r. ⌜ Degrees degrees (now (out .entry)) r (now (out .exit)) ⌝ }
 {

@@ -1,4 +1,5 @@
--- What the program makes of its input: the replay by who knows nothing, and then the temperature of the field, as a line.
+-- What the program makes of its input: the replay by one who knows nothing, and then the temperature of the field, as a
+-- line.
 use Prim.Native.Nat.{ℕ, _≤_}
 use mathlib.Core.Path.{_≡_}
 use mathlib.Core.List.{List}
@@ -13,27 +14,27 @@ use Rattle.replay.specs.FromNothing.{FromNothing}
 use Rattle.thermometer.specs.declared.temperatures.Answer.{Answer}
 use Rattle.thermometer.specs.Answer.{Tells}
 use Rattle.refusals.specs.Refusal.{refusedAt}
-use Rattle.temperature_line.specs.Line.{WritesLine, written-within}
-use Rattle.writing.specs.Writes.{Writes}
+use Rattle.writing.specs.Prints.{Prints, prints-within}
+use Rattle.temperature_line.specs.Line.{room, PrintsLine}
 
--- The line of the temperature of a field.
+-- The line of the temperature of a field is printed.
 pub record Told (q : PartRead) (k : Panel) (start : ℕ) (out : List ℕ) (r : ℕ) (out′ : List ℕ) : Type 0 where
   pub answer : Answer
   pub tells : Tells q k start answer
-  pub line : WritesLine answer out r out′
+  pub prints : PrintsLine answer out r out′
 
--- The line of an input: a recording that is refused is told of first.
+-- What is printed of an input: a recording that is refused is told of first.
 pub record Shows (part start : ℕ) (recording out : List ℕ) (r : ℕ) (out′ : List ℕ) : Type 0 where
   pub after : Replayed
   pub replayed : FromNothing part recording after
   pub line :
       Where (number (after .answer) ≡ 0) (Told (partOf part) (after .panel) start out r out′)
-      (Writes out 0 (refusedAt (number (after .answer)) (place (after .answer))) r out′)
+      (Prints room (refusedAt (number (after .answer)) (place (after .answer))) out r out′)
 
--- The line is never longer than the output.
+-- The answer is never more than the output has.
 pub shows-within : {part start : ℕ} {recording out : List ℕ} {r : ℕ} {out′ : List ℕ} → Shows part start recording out r out′ → r ≤ length out′
 shows-within {r = r} {out′ = out′} s = go (s .line)
   where
-    go : {G : Type 0} {q : PartRead} {k : Panel} {start : ℕ} {out text : List ℕ} → Where G (Told q k start out r out′) (Writes out 0 text r out′) → r ≤ length out′
-    go (good g t) = written-within (t .line .written)
-    go (bad n w) = written-within w
+    go : {G : Type 0} {q : PartRead} {k : Panel} {start : ℕ} {out text : List ℕ} → Where G (Told q k start out r out′) (Prints room text out r out′) → r ≤ length out′
+    go (good g t) = prints-within (t .prints .printed)
+    go (bad n p) = prints-within p

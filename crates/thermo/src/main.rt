@@ -8,9 +8,9 @@ use mirror_input::part_byte;
 use mirror_input::recording_of;
 use mirror_input::start_byte;
 use panel::Panel;
-use refusals::refused;
 use replay::from_nothing;
 use temperature_line::write_line;
+use temperature_line::write_refusal;
 use terms::Address;
 use thermometer::temperature;
 ghost use Rattle.terms.specs.Part.{partOf};
@@ -35,7 +35,7 @@ fn print(input: &[u8]) {
     }
 }
 
-// Writes the line of an input to the front of `out`, and gives its length.
+// Writes the line of an input to the front of `out`, and gives its length. Where `out` has less than ROOM bytes nothing is written, and the length is 0.
 fn read_off(input: &[u8], out: &mut [u8]) -> usize
     ensures { λ r. ⌜ Shows (partByte (now (input .entry))) (startByte (now (input .entry))) (behind (behind (now (input .entry)))) (now (out .entry)) r (now (out .exit)) ⌝ }
 {
@@ -53,7 +53,7 @@ fn shown(part: u8, start: Address, recording: &[u8], out: &mut [u8]) -> usize
     if replayed.0 == 0 {
         return told(part, after.panel, start, out);
     }
-    refused(out, replayed.0, replayed.1)
+    write_refusal(replayed.0, replayed.1, out)
 }
 
 fn told(part: u8, panel: Panel, start: Address, out: &mut [u8]) -> usize

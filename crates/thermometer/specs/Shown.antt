@@ -30,6 +30,13 @@ pub record Shows (start : ℕ) (h : ℤ) (c : Fact → ℕ) : Type 0 where
   pub within : last start ≤ inUse (c digits)
   pub spells : spelled (fieldOf c start) ≡ reading h
 
+-- Every one of these chips shows that field, and no other: the same five bytes, which spell h.
+pub record ShownBy (start : ℕ) (h : ℤ) (chips : (Fact → ℕ) → Type 0) : Type 0 where
+  pub field : Five
+  pub spells : spelled field ≡ reading h
+  pub shown : (c : Fact → ℕ) → chips c → Shows start h c
+  pub same : (c : Fact → ℕ) → chips c → fieldOf c start ≡ field
+
 -- The same is known: lights, digits and the five cells are.
 pub record KnownToShow (start : ℕ) (h : ℤ) (k : Fact → Standing) : Type 0 where
   pub lit : isKnown (k lights) (lit Normal) ≡ true

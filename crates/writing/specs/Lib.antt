@@ -1,3 +1,4 @@
 pub mod Sets
 pub mod Writes
 pub mod Laws
+pub mod Prints

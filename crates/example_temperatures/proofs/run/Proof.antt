@@ -1,7 +1,7 @@
 -- `run` is safe: what `temperature` answers is some half degrees where it is a reading. Assumes nothing.
 use Rattle.terms.specs.Part.{partOf}
 use Rattle.readings.specs.Reading.{answer-halved}
-use Rattle.temperature_line.specs.Line.{sound-as}
+use Rattle.temperature_line.specs.Line.{printable-as}
 use borrow.Author.Needs.{needs}
 use Rattle.example_temperatures.proofs.run.Statement.{statement}
 use Rattle.example_temperatures.proofs.run.Tie as tie
@@ -19,7 +19,7 @@ tell-requires : tie.Need-tell-requires
 tell-requires c κs =
     let a = c .before .before .before .before .args in
     let t = c .temperature in
-    sound-as (t .result) (answer-halved (partOf (a .part)) (c .before .with-character .result) (a .start) (t .result) (t .ensures))
+    printable-as (t .result) (answer-halved (partOf (a .part)) (c .before .with-character .result) (a .start) (t .result) (t .ensures))
 
 returns : tie.Need-returns
 returns c = search needs

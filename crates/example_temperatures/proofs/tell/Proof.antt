@@ -1,6 +1,6 @@
 -- `tell` is safe: a reading is some half degrees. Assumes nothing.
 use mathlib.Core.Path.{subst}
-use Rattle.temperature_line.specs.Line.{Sound}
+use Rattle.temperature_line.specs.Line.{Printable}
 use borrow.Author.Needs.{needs}
 use Rattle.example_temperatures.proofs.tell.Statement.{statement}
 use Rattle.example_temperatures.proofs.tell.Tie as tie
@@ -9,7 +9,7 @@ enum-known-answer : tie.Need-enum-known-answer
 enum-known-answer c = search needs
 
 reads-requires : tie.Need-reads-requires
-reads-requires c κs = subst Sound (c .before .answer .given .1) (c .before .before .before .pre)
+reads-requires c κs = subst Printable (c .before .answer .given .1) (c .before .before .before .pre)
 
 enum-told : tie.Need-enum-told
 enum-told c = search needs

@@ -1,7 +1,7 @@
 -- `print` is safe: the page is no longer than what it was written to. Assumes nothing.
 use mathlib.Core.Path.{sym}
 use lib.Seq.{length-take-le}
-use Rattle.page.specs.Laws.{prints-within}
+use Rattle.writing.specs.Prints.{prints-within}
 use borrow.Author.Needs.{needs}
 use Rattle.mirror.proofs.print.Statement.{statement}
 use Rattle.mirror.proofs.print.Tie as tie

@@ -23,8 +23,8 @@ returns c =
     let t = c .before .before .before .before .before .before .told-of .ensures in
     record { after = f .result; replayed = f .ensures; line = good (sym (t .0) ∙ c .before .before .before .before .if1 .taken) (c .before .before .told .ensures) }
 
-refused-requires : tie.Need-refused-requires
-refused-requires c κs = search needs
+write-refusal-requires : tie.Need-write-refusal-requires
+write-refusal-requires c κs = search needs
 
 same-length-2 : tie.Need-same-length-2
 same-length-2 c = search needs
@@ -36,7 +36,7 @@ returns-2 c =
     record {
       after = f .result;
       replayed = f .ensures;
-      line = bad (λ z. c .before .before .before .before .if1 .left (t .0 ∙ z)) (rw (← t .0, ← t .1) (c .before .before .refused .ensures));
+      line = bad (λ z. c .before .before .before .before .if1 .left (t .0 ∙ z)) (rw (← t .0, ← t .1) (c .before .before .write-refusal .ensures));
     }
 
 pub shown-spec : {M : Type 1} → statement M
@@ -48,6 +48,6 @@ shown-spec =
     told-requires
     same-length
     returns
-    refused-requires
+    write-refusal-requires
     same-length-2
     returns-2)

@@ -7,8 +7,9 @@ use Rattle.listing.specs.Memory.{memory}
 use Rattle.page.specs.Page.{doneAt}
 use Rattle.refusals.specs.Refusal.{refused-length}
 use Rattle.writing.specs.Laws.{writes-then}
+use Rattle.writing.specs.Prints.{prints, prints-nothing}
 use Rattle.page.specs.Lengths.{done-length}
-use Rattle.page.specs.Laws.{page-done, page-refused, prints, prints-nothing}
+use Rattle.page.specs.Laws.{page-done, page-refused}
 use borrow.Author.Needs.{needs}
 use Rattle.page.proofs.pages.write_page.Statement.{statement}
 use Rattle.page.proofs.pages.write_page.Tie as tie
