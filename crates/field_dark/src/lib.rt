@@ -1,15 +1,12 @@
 // Whether a temperature field is known to be dark (paper 02, M-103).
+use character_knowledge::OFF;
+use character_knowledge::ON;
 use standing::Standing;
 use standing::is_known;
 use terms::Address;
 ghost use mathlib.Core.Path.{_≡_};
 ghost use Rattle.standing.specs.View.{stands};
 ghost use Rattle.field.specs.Field.{inUse, reachesPast, isDark};
-
-// The numbers of the lights, as `character/Value` has them.
-const OFF: u8 = 1;
-
-const ON: u8 = 2;
 
 pub fn is_dark(lights: Standing, digits: Standing, start: Address) -> bool
     ensures { λ r. ⌜ r ≡ isDark (stands lights) (stands digits) (start .0) ⌝ }
