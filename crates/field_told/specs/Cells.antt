@@ -1,9 +1,13 @@
 -- The code's own words: five cells as bytes, where all are known.
-use Prim.Native.Nat.{ℕ, _+_, _<_}
-use mathlib.Core.Path.{_≡_, refl, sym, ap, _∙_}
+use Prim.Native.Nat.{ℕ, zero, suc, _+_, _<_}
+use native.Mathlib.Nat.{add-zero}
+use native.Mathlib.Decide.{ℕ-discrete}
+use native.Mathlib.Omega.{arith}
+use mathlib.Core.Path.{_≡_, refl, sym, ap, _∙_, subst}
 use mathlib.Core.Bool.{Bool, true, false, _||_}
 use mathlib.Core.List.{List}
-use lib.ListN.{length, getD}
+use lib.ListN.{length, length-set, getD, set}
+use lib.Seq.{getD-set-same, getD-set-other}
 use Rattle.knowing.specs.Standing as Of
 use Rattle.knowing.specs.Standing.{Standing}
 use Rattle.standing.specs.declared.standing.Standing.{Standing as Single}
@@ -39,33 +43,70 @@ here-known : (x : Standing) (f : ℕ → Said) (v : ℕ) → x ≡ Of.known v �
 here-known x f v e = ap (λ (y : Standing). ifKnown y f) e
 
 module _ (cell : ℕ → Standing) (start : ℕ) (rest : Five → Said) where
-  pub no-sign : cell start ≡ Of.unknown → ifAll cell start rest ≡ unknown
+  no-sign : cell start ≡ Of.unknown → ifAll cell start rest ≡ unknown
   no-sign u = here-unknown (cell start) _ u
 
-  pub no-tens : cell (start + 1) ≡ Of.unknown → ifAll cell start rest ≡ unknown
+  no-tens : cell (start + 1) ≡ Of.unknown → ifAll cell start rest ≡ unknown
   no-tens u = else-unknown (cell start) _ (λ _. here-unknown (cell (start + 1)) _ u)
 
-  pub no-units : cell (start + 2) ≡ Of.unknown → ifAll cell start rest ≡ unknown
+  no-units : cell (start + 2) ≡ Of.unknown → ifAll cell start rest ≡ unknown
   no-units u = else-unknown (cell start) _ (λ _. else-unknown (cell (start + 1)) _ (λ _. here-unknown (cell (start + 2)) _ u))
 
-  pub no-point : cell (start + 3) ≡ Of.unknown → ifAll cell start rest ≡ unknown
+  no-point : cell (start + 3) ≡ Of.unknown → ifAll cell start rest ≡ unknown
   no-point u =
       else-unknown (cell start) _
       (λ _. else-unknown (cell (start + 1)) _ (λ _. else-unknown (cell (start + 2)) _ (λ _. here-unknown (cell (start + 3)) _ u)))
 
-  pub no-half : cell (start + 4) ≡ Of.unknown → ifAll cell start rest ≡ unknown
+  no-half : cell (start + 4) ≡ Of.unknown → ifAll cell start rest ≡ unknown
   no-half u =
       else-unknown (cell start) _
       (λ _. else-unknown (cell (start + 1)) _
       (λ _. else-unknown (cell (start + 2)) _ (λ _. else-unknown (cell (start + 3)) _ (λ _. here-unknown (cell (start + 4)) _ u))))
 
   -- Where all five are known, the rest is told of them.
-  pub all-known : (f : Five) → cell start ≡ Of.known (f .sign) → cell (start + 1) ≡ Of.known (f .tens) → cell (start + 2) ≡ Of.known (f .units)
+  all-known : (f : Five) → cell start ≡ Of.known (f .sign) → cell (start + 1) ≡ Of.known (f .tens) → cell (start + 2) ≡ Of.known (f .units)
       → cell (start + 3) ≡ Of.known (f .point) → cell (start + 4) ≡ Of.known (f .half) → ifAll cell start rest ≡ rest f
   all-known f a b c d e =
       here-known (cell start) _ (f .sign) a ∙ here-known (cell (start + 1)) _ (f .tens) b ∙ here-known (cell (start + 2)) _ (f .units) c
       ∙ here-known (cell (start + 3)) _ (f .point) d ∙ here-known (cell (start + 4)) _ (f .half) e
 
+  -- Whichever of the five is not known.
+  pub no-cell : (i : ℕ) → i < 5 → cell (start + i) ≡ Of.unknown → ifAll cell start rest ≡ unknown
+  no-cell zero h u = no-sign (subst (λ (k : ℕ). cell k ≡ Of.unknown) (add-zero start) u)
+  no-cell (suc zero) h u = no-tens u
+  no-cell (suc (suc zero)) h u = no-units u
+  no-cell (suc (suc (suc zero))) h u = no-point u
+  no-cell (suc (suc (suc (suc zero)))) h u = no-half u
+  no-cell (suc (suc (suc (suc (suc i))))) h u = absurd (omega arith)
+
 -- What was read of a code is what is known of its cell.
 pub cell-is : (codes : List ℕ) (i : ℕ) (r w : Single) → i < length codes → stands r ≡ byteCoded (getD codes i 0) → r ≡ w → byteCoded (getD codes i 256) ≡ stands w
 cell-is codes i r w h e g = ap byteCoded (default-free codes i 256 0 h) ∙ sym e ∙ ap stands g
+
+-- The first i of five bytes are those that the first i cells from `start` on are known to hold.
+pub record Read (codes : List ℕ) (start i : ℕ) (bytes : List ℕ) : Type 0 where
+  pub size : length bytes ≡ 5
+  pub held : (j : ℕ) → j < i → byteCoded (getD codes (start + j) 256) ≡ Of.known (getD bytes j 0)
+
+module _ (codes : List ℕ) (start : ℕ) where
+  pub read-none : (bytes : List ℕ) → length bytes ≡ 5 → Read codes start 0 bytes
+  read-none bytes e = record { size = e; held = λ j h. absurd (omega arith) }
+
+  -- One byte more.
+  pub read-more : (i : ℕ) (bytes : List ℕ) (b : ℕ) → i < 5 → Read codes start i bytes → byteCoded (getD codes (start + i) 256) ≡ Of.known b
+      → Read codes start (i + 1) (set bytes i b)
+  read-more i bytes b h r e = record { size = length-set bytes i b ∙ r .size; held = λ j l. go j l (ℕ-discrete j i) }
+    where
+      go : (j : ℕ) → j < i + 1 → Dec (j ≡ i) → byteCoded (getD codes (start + j) 256) ≡ Of.known (getD (set bytes i b) j 0)
+      go j l (yes p) =
+          let within : i < length bytes = let s = r .size in omega arith in
+          rw p (e ∙ ap Of.known (sym (getD-set-same bytes i b 0 within)))
+      go j l (no p) = r .held j (omega arith) ∙ ap Of.known (sym (getD-set-other bytes i j b 0 p))
+
+  -- All five: the rest is told of them.
+  pub read-all : (bytes : List ℕ) (rest : Five → Said) → Read codes start 5 bytes
+      → rest (record { sign = getD bytes 0 0; tens = getD bytes 1 0; units = getD bytes 2 0; point = getD bytes 3 0; half = getD bytes 4 0 })
+      ≡ ifAll (λ i. byteCoded (getD codes i 256)) start rest
+  read-all bytes rest r =
+      let first = subst (λ (k : ℕ). byteCoded (getD codes k 256) ≡ Of.known (getD bytes 0 0)) (add-zero start) (r .held 0 (omega arith)) in
+      sym (all-known (λ i. byteCoded (getD codes i 256)) start rest _ first (r .held 1 (omega arith)) (r .held 2 (omega arith)) (r .held 3 (omega arith)) (r .held 4 (omega arith)))

@@ -22,27 +22,21 @@ pub fn five_at(dcram: [u16; 16], start: Address) -> Row
     requires { ⌜ start .0 ≤ 11 ⌝ }
     ensures { λ r. ⌜ ((rest : Five → Said) → byRow r rest ≡ ifAll (λ i. byteCoded (getD dcram i 256)) (start .0) rest) ⌝ }
 {
-    let at = start.0 as usize;
-    let Standing::Known(sign) = byte_in(dcram[at]) else {
-        return Row::Unknown;
-    };
-    let Standing::Known(tens) = byte_in(dcram[at + 1]) else {
-        return Row::Unknown;
-    };
-    let Standing::Known(units) = byte_in(dcram[at + 2]) else {
-        return Row::Unknown;
-    };
-    let Standing::Known(point) = byte_in(dcram[at + 3]) else {
-        return Row::Unknown;
-    };
-    let Standing::Known(half) = byte_in(dcram[at + 4]) else {
-        return Row::Unknown;
-    };
+    let mut bytes = [0u8; 5];
+    let mut i = 0;
+    while i < 5 {
+        let cell = byte_in(dcram[start.0 as usize + i]);
+        match cell {
+            Standing::Known(byte) => bytes[i] = byte,
+            Standing::Unknown => return Row::Unknown,
+        }
+        i += 1;
+    }
     Row::Known(Five {
-        sign,
-        tens,
-        units,
-        point,
-        half,
+        sign: bytes[0],
+        tens: bytes[1],
+        units: bytes[2],
+        point: bytes[3],
+        half: bytes[4],
     })
 }

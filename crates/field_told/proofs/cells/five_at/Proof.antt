@@ -1,177 +1,111 @@
--- `field_told::cells::five_at` meets its contract: the first cell that is not known ends it, and else the five bytes are those of the cells. Assumes nothing.
-use Prim.Native.Nat.{ℕ, _+_}
+-- `field_told::cells::five_at` meets its contract. The argument: as long as the loop goes on, the bytes read are those that the cells are known to hold; the first cell
+-- that is not known ends it. Assumes nothing.
+use Prim.Native.Nat.{ℕ, _+_, _-_, _≤_}
 use native.Mathlib.Omega.{arith}
-use mathlib.Core.Path.{sym}
+use mathlib.Core.Path.{_≡_, refl, sym, subst}
 use lib.ListN.{getD}
+use borrow.Author.Needs.{needs}
 use Rattle.standing.specs.declared.standing.Standing.the-variants.{Known, Unknown}
 use Rattle.standing.specs.View.{byteCoded}
-use Rattle.field_told.specs.Cells.{no-sign, no-tens, no-units, no-point, no-half, all-known, cell-is}
-use borrow.Author.Needs.{needs}
+use Rattle.field_told.specs.Cells.{Read, no-cell, cell-is, read-none, read-more, read-all}
 use Rattle.field_told.proofs.cells.five_at.Statement.{statement}
 use Rattle.field_told.proofs.cells.five_at.Tie as tie
 
-cast-at : tie.Need-cast-at
-cast-at c = search needs
+abbrev Inv-loop : tie.InvT-loop
+Inv-loop start dcram bytes₀ i₀ bytes i = (i ≤ 5) × Read dcram (start .0) i bytes
 
-mul-byte-in : tie.Need-mul-byte-in
-mul-byte-in c = search needs
+abbrev μ-loop : tie.MeasureT-loop
+μ-loop start dcram bytes₀ i₀ bytes i = 5 - i
 
-array-read-byte-in : tie.Need-array-read-byte-in
-array-read-byte-in c = search needs
+loop-holds : tie.Need-loop-holds Inv-loop μ-loop
+loop-holds c = (omega arith, read-none _ _ _ refl)
 
-byte-in-requires : tie.Need-byte-in-requires
-byte-in-requires c κs = search needs
+cast-byte-in : tie.Need-cast-byte-in Inv-loop μ-loop
+cast-byte-in c = search needs
 
-enum-known-sign : tie.Need-enum-known-sign
-enum-known-sign c = search needs
-
-enum-told : tie.Need-enum-told
-enum-told c = search needs
-
-returns : tie.Need-returns
-returns c =
-    let a = c .before .before .before .before .args in
-    λ rest. sym (no-sign (λ (i : ℕ). byteCoded (getD (a .t1) i 256)) (a .start .0) rest (cell-is (a .t1) (a .start .0) (c .before .before .byte-in .result) Unknown (omega arith) (c .before .before .byte-in .ensures) (c .enum-told .given .1)))
-
-add-byte-in : tie.Need-add-byte-in
+add-byte-in : tie.Need-add-byte-in Inv-loop μ-loop
 add-byte-in c = search needs
 
-mul-byte-in-2 : tie.Need-mul-byte-in-2
-mul-byte-in-2 c = search needs
+mul-byte-in : tie.Need-mul-byte-in Inv-loop μ-loop
+mul-byte-in c = search needs
 
-array-read-byte-in-2 : tie.Need-array-read-byte-in-2
-array-read-byte-in-2 c = search needs
+array-read-byte-in : tie.Need-array-read-byte-in Inv-loop μ-loop
+array-read-byte-in c = search needs
 
-byte-in-requires-2 : tie.Need-byte-in-requires-2
-byte-in-requires-2 c κs = search needs
+byte-in-requires : tie.Need-byte-in-requires Inv-loop μ-loop
+byte-in-requires c κs = search needs
 
-enum-known-tens : tie.Need-enum-known-tens
-enum-known-tens c = search needs
+enum-known-cell : tie.Need-enum-known-cell Inv-loop μ-loop
+enum-known-cell c = search needs
 
-enum-told-2 : tie.Need-enum-told-2
-enum-told-2 c = search needs
+array-write-bytes : tie.Need-array-write-bytes Inv-loop μ-loop
+array-write-bytes c = search needs
 
-returns-2 : tie.Need-returns-2
+enum-told : tie.Need-enum-told Inv-loop μ-loop
+enum-told c = search needs
+
+returns : tie.Need-returns Inv-loop μ-loop
+returns c =
+    let a = c .before .before .before .before .before .before .args in
+    let n = c .before .before .before .before .before .loop .i in
+    λ rest. sym (no-cell (λ (i : ℕ). byteCoded (getD (a .t1) i 256)) (a .start .0) rest n (omega arith) (cell-is (a .t1) (a .start .0 + n) (c .before .before .byte-in .result) Unknown (omega arith) (c .before .before .byte-in .ensures) (c .enum-told .given .1)))
+
+add-i : tie.Need-add-i Inv-loop μ-loop
+add-i c = search needs
+
+loop-less : tie.Need-loop-less Inv-loop μ-loop
+loop-less c = search needs
+
+loop-again : tie.Need-loop-again Inv-loop μ-loop
+loop-again c =
+    let a = c .before .before .before .before .before .before .before .args in
+    let l = c .before .before .before .before .before .before .loop in
+    (omega arith, read-more (a .t1) (a .start .0) (l .i) (l .bytes) (c .before .cell .given .0 .0) (omega arith) (l .inv .1) (cell-is (a .t1) (a .start .0 + l .i) (c .before .before .before .byte-in .result) (Known (c .before .cell .given .0 .0)) (omega arith) (c .before .before .before .byte-in .ensures) (c .before .cell .given .1)))
+
+array-read-t19 : tie.Need-array-read-t19 Inv-loop μ-loop
+array-read-t19 c = search needs
+
+array-read-t22 : tie.Need-array-read-t22 Inv-loop μ-loop
+array-read-t22 c = search needs
+
+array-read-t25 : tie.Need-array-read-t25 Inv-loop μ-loop
+array-read-t25 c = search needs
+
+array-read-t28 : tie.Need-array-read-t28 Inv-loop μ-loop
+array-read-t28 c = search needs
+
+array-read-t31 : tie.Need-array-read-t31 Inv-loop μ-loop
+array-read-t31 c = search needs
+
+returns-2 : tie.Need-returns-2 Inv-loop μ-loop
 returns-2 c =
-    let a = c .before .before .before .before .before .before .before .before .args in
-    λ rest. sym (no-tens (λ (i : ℕ). byteCoded (getD (a .t1) i 256)) (a .start .0) rest (cell-is (a .t1) (a .start .0 + 1) (c .before .before .byte-in2 .result) Unknown (omega arith) (c .before .before .byte-in2 .ensures) (c .enum-told2 .given .1)))
-
-add-byte-in-2 : tie.Need-add-byte-in-2
-add-byte-in-2 c = search needs
-
-mul-byte-in-3 : tie.Need-mul-byte-in-3
-mul-byte-in-3 c = search needs
-
-array-read-byte-in-3 : tie.Need-array-read-byte-in-3
-array-read-byte-in-3 c = search needs
-
-byte-in-requires-3 : tie.Need-byte-in-requires-3
-byte-in-requires-3 c κs = search needs
-
-enum-known-units : tie.Need-enum-known-units
-enum-known-units c = search needs
-
-enum-told-3 : tie.Need-enum-told-3
-enum-told-3 c = search needs
-
-returns-3 : tie.Need-returns-3
-returns-3 c =
-    let a = c .before .before .before .before .before .before .before .before .before .before .before .before .args in
-    λ rest. sym (no-units (λ (i : ℕ). byteCoded (getD (a .t1) i 256)) (a .start .0) rest (cell-is (a .t1) (a .start .0 + 2) (c .before .before .byte-in3 .result) Unknown (omega arith) (c .before .before .byte-in3 .ensures) (c .enum-told3 .given .1)))
-
-add-byte-in-3 : tie.Need-add-byte-in-3
-add-byte-in-3 c = search needs
-
-mul-byte-in-4 : tie.Need-mul-byte-in-4
-mul-byte-in-4 c = search needs
-
-array-read-byte-in-4 : tie.Need-array-read-byte-in-4
-array-read-byte-in-4 c = search needs
-
-byte-in-requires-4 : tie.Need-byte-in-requires-4
-byte-in-requires-4 c κs = search needs
-
-enum-known-point : tie.Need-enum-known-point
-enum-known-point c = search needs
-
-enum-told-4 : tie.Need-enum-told-4
-enum-told-4 c = search needs
-
-returns-4 : tie.Need-returns-4
-returns-4 c =
-    let a = c .before .before .before .before .before .before .before .before .before .before .before .before .before .before .before .before .args in
-    λ rest. sym (no-point (λ (i : ℕ). byteCoded (getD (a .t1) i 256)) (a .start .0) rest (cell-is (a .t1) (a .start .0 + 3) (c .before .before .byte-in4 .result) Unknown (omega arith) (c .before .before .byte-in4 .ensures) (c .enum-told4 .given .1)))
-
-add-byte-in-4 : tie.Need-add-byte-in-4
-add-byte-in-4 c = search needs
-
-mul-byte-in-5 : tie.Need-mul-byte-in-5
-mul-byte-in-5 c = search needs
-
-array-read-byte-in-5 : tie.Need-array-read-byte-in-5
-array-read-byte-in-5 c = search needs
-
-byte-in-requires-5 : tie.Need-byte-in-requires-5
-byte-in-requires-5 c κs = search needs
-
-enum-known-half : tie.Need-enum-known-half
-enum-known-half c = search needs
-
-enum-told-5 : tie.Need-enum-told-5
-enum-told-5 c = search needs
-
-returns-5 : tie.Need-returns-5
-returns-5 c =
-    let a = c .before .before .before .before .before .before .before .before .before .before .before .before .before .before .before .before .before .before .before .before .args in
-    λ rest. sym (no-half (λ (i : ℕ). byteCoded (getD (a .t1) i 256)) (a .start .0) rest (cell-is (a .t1) (a .start .0 + 4) (c .before .before .byte-in5 .result) Unknown (omega arith) (c .before .before .byte-in5 .ensures) (c .enum-told5 .given .1)))
-
-returns-6 : tie.Need-returns-6
-returns-6 c =
-    let a = c .before .before .before .before .before .before .before .before .before .before .before .before .before .before .before .before .before .before .before .before .before .args in
-    λ rest. sym (all-known (λ (i : ℕ). byteCoded (getD (a .t1) i 256)) (a .start .0) rest _
-    (cell-is (a .t1) (a .start .0) (c .before .before .before .before .before .before .before .before .before .before .before .before .before .before .before .before .before .before .before .byte-in .result) (Known (c .before .before .before .before .before .before .before .before .before .before .before .before .before .before .before .before .before .sign .given .0 .0)) (omega arith) (c .before .before .before .before .before .before .before .before .before .before .before .before .before .before .before .before .before .before .before .byte-in .ensures) (c .before .before .before .before .before .before .before .before .before .before .before .before .before .before .before .before .before .sign .given .1))
-    (cell-is (a .t1) (a .start .0 + 1) (c .before .before .before .before .before .before .before .before .before .before .before .before .before .before .before .byte-in2 .result) (Known (c .before .before .before .before .before .before .before .before .before .before .before .before .before .tens .given .0 .0)) (omega arith) (c .before .before .before .before .before .before .before .before .before .before .before .before .before .before .before .byte-in2 .ensures) (c .before .before .before .before .before .before .before .before .before .before .before .before .before .tens .given .1))
-    (cell-is (a .t1) (a .start .0 + 2) (c .before .before .before .before .before .before .before .before .before .before .before .byte-in3 .result) (Known (c .before .before .before .before .before .before .before .before .before .units .given .0 .0)) (omega arith) (c .before .before .before .before .before .before .before .before .before .before .before .byte-in3 .ensures) (c .before .before .before .before .before .before .before .before .before .units .given .1))
-    (cell-is (a .t1) (a .start .0 + 3) (c .before .before .before .before .before .before .before .byte-in4 .result) (Known (c .before .before .before .before .before .point .given .0 .0)) (omega arith) (c .before .before .before .before .before .before .before .byte-in4 .ensures) (c .before .before .before .before .before .point .given .1))
-    (cell-is (a .t1) (a .start .0 + 4) (c .before .before .before .byte-in5 .result) (Known (c .before .half .given .0 .0)) (omega arith) (c .before .before .before .byte-in5 .ensures) (c .before .half .given .1)))
+    let a = c .before .before .args in
+    let l = c .before .loop in
+    let all : l .i ≡ 5 = omega arith in
+    λ rest. read-all (a .t1) (a .start .0) (l .bytes) rest (subst (λ (n : ℕ). Read (a .t1) (a .start .0) n (l .bytes)) all (l .inv .1))
 
 pub five-at-spec : {M : Type 1} → statement M
 five-at-spec =
     tie.close
     (tie.spec
-    cast-at
+    Inv-loop
+    μ-loop
+    loop-holds
+    cast-byte-in
+    add-byte-in
     mul-byte-in
     array-read-byte-in
     byte-in-requires
-    enum-known-sign
+    enum-known-cell
+    array-write-bytes
     enum-told
     returns
-    add-byte-in
-    mul-byte-in-2
-    array-read-byte-in-2
-    byte-in-requires-2
-    enum-known-tens
-    enum-told-2
-    returns-2
-    add-byte-in-2
-    mul-byte-in-3
-    array-read-byte-in-3
-    byte-in-requires-3
-    enum-known-units
-    enum-told-3
-    returns-3
-    add-byte-in-3
-    mul-byte-in-4
-    array-read-byte-in-4
-    byte-in-requires-4
-    enum-known-point
-    enum-told-4
-    returns-4
-    add-byte-in-4
-    mul-byte-in-5
-    array-read-byte-in-5
-    byte-in-requires-5
-    enum-known-half
-    enum-told-5
-    returns-5
-    returns-6)
+    add-i
+    loop-less
+    loop-again
+    array-read-t19
+    array-read-t22
+    array-read-t25
+    array-read-t28
+    array-read-t31
+    returns-2)
