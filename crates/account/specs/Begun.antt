@@ -13,7 +13,7 @@ use Rattle.rules.specs.Choice.{whether}
 use Rattle.terms.specs.declared.Event.{Event}
 use Rattle.terms.specs.declared.Place.{Place}
 use Rattle.terms.specs.declared.Part.{Part}
-use Rattle.recording.specs.Record.{listed, belongs, bodyOf, allowed, ofBody, eventOf, front}
+use Rattle.recording.specs.Record.{listed, belongs, bodyOf, allowed, ofBody, eventOf, front, placeWithin}
 use Rattle.recording.specs.Walk.{walked, events, endOf}
 use Rattle.recording.specs.Append.{shifted}
 use Rattle.recording.specs.Cut.{Open, walked-next, walked-stops}
@@ -43,7 +43,7 @@ module _ (p : Part) (t : List ℕ) (kind : listed (getD t 0 0) ≡ true) (own : 
   whole-body : front p t ≡ ofBody p (getD t 0 0) t
   whole-body = rw (kind, own, lt-ltb (bodyOf (getD t 0 0)) (length t) (omega (arith, long))) refl
 
-  one-record : (endOf (walked p t) ≡ Done) ⊎ (endOf (walked p t) ≡ Stops Forbidden (record { 0 = 0 }))
+  one-record : (endOf (walked p t) ≡ Done) ⊎ (endOf (walked p t) ≡ Stops Forbidden (record { 0 = placeWithin Forbidden (getD t 0 0) }))
   one-record = by (allowed p (getD t 0 0) (getD t 1 0) (getD t 4 0)) refl
     where
       e : Event
@@ -53,7 +53,7 @@ module _ (p : Part) (t : List ℕ) (kind : listed (getD t 0 0) ≡ true) (own : 
       nothing-more = ap (λ (n : ℕ). drop n t) (sym long) ∙ drop-length t
 
       by : (b : Bool) → allowed p (getD t 0 0) (getD t 1 0) (getD t 4 0) ≡ b
-          → (endOf (walked p t) ≡ Done) ⊎ (endOf (walked p t) ≡ Stops Forbidden (record { 0 = 0 }))
+          → (endOf (walked p t) ≡ Done) ⊎ (endOf (walked p t) ≡ Stops Forbidden (record { 0 = placeWithin Forbidden (getD t 0 0) }))
       by true a =
           let q : front p t ≡ Is e (wholeOf t) = whole-body ∙ ap (λ (b : Bool). whether b (Is e (wholeOf t)) (Refused Forbidden)) a in
           let w = walked-next p t (omega (arith, long)) e (wholeOf t) q in

@@ -8,7 +8,8 @@ use lib.ListN.{length, drop, getD}
 use lib.Seq.{drop-drop}
 use Rattle.terms.specs.declared.Place.{Place}
 use Rattle.recording.specs.Append.{shifted}
-use Rattle.recording.specs.Cut.{Open, leftBy, stops-front}
+use Rattle.recording.specs.Cut.{Open, leftBy}
+use Rattle.recording.specs.Points.{cut-front}
 use Rattle.recording.specs.Start.{starts, body-four}
 use Rattle.recording.specs.Steps.{stops-within}
 use Rattle.recording.specs.declared.ending.Ending.{Ending}
@@ -75,6 +76,6 @@ stop-within {x} {at} l (p, q) = let s = stops-within p l x at q in omega (arith,
 
 pub cut-within : {at : Place} (l : List ℕ) → EndOf (Stops CutShort at) l → length (drop (at .0) l) ≤ 4
 cut-within {at} l (p, q) =
-    let s = starts p (drop (at .0) l) (stops-front p l CutShort at q) .short in
+    let s = starts p (drop (at .0) l) (cut-front p l at q) .short in
     let b = body-four (getD (drop (at .0) l) 0 0) in
     omega (arith, s, b)

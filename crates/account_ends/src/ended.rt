@@ -59,14 +59,15 @@ pub fn put_off(unfinished: Unfinished, total: u32, packet: &[u8]) -> Ended
     went_on(held(&row[..all]), total as usize + packet.len())
 }
 
-// The record that was begun is refused; it starts where its first byte stood.
+// The record that was begun is refused; it starts where its first byte stood, and what the refusal points at stands so many bytes behind that.
 pub fn begun_refused(unfinished: Unfinished, total: u32, refusal: Refusal, at: Place) -> Ended
     requires { ⌜ (length (bytesOf unfinished) ≤ total) × (at .0 ≤ 4) ⌝ }
     ensures { λ r. ⌜ r ≡ halted total refusal (firstPlace unfinished total + at .0) ⌝ }
 {
     let before = total as usize;
     let first = before - count_of(unfinished);
-    halts(before, refusal, first + at.0)
+    let place = first + at.0;
+    halts(before, refusal, place)
 }
 
 // Nothing is told against the packet: its bytes are counted, and those of a record that is not whole are kept.

@@ -20,4 +20,4 @@ one-kept (Stands.Refused b) n at a c h g = one-answer (number b) (place b) a c h
 
 pub one-closing : (u : List ℕ) (first total : ℕ) (k : Kept) (a c : Answer) → ByLeft u first total k a → ByLeft u first total k c → a ≡ c
 one-closing [] first total k a c h g = one-kept k 0 total a c h g
-one-closing (b ∷ l) first total k a c h g = one-answer 7 first a c h g
+one-closing (b ∷ l) first total k a c h g = one-answer _ _ a c h g

@@ -13,13 +13,13 @@ use Rattle.answers.specs.declared.Answer.{Answer}
 use Rattle.answers.specs.declared.Answer.the-variants as A
 use Rattle.answers.specs.Answer.{refusedAs}
 
--- A record that is none stands before the recording's end.
+-- What a refusal points at stands before the recording's end.
 abbrev pub Inside : Ending → (from length : ℕ) → Type 0
 Inside Done from length = Unit
 Inside (Stops x at) from length = from + at .0 < length
 
--- Number 0 at the recording's length, or the record's own number at its first byte, counted from the recording's front;
--- the records began at the place `from`.
+-- Number 0 at the recording's length, or the refusal's number at the place that it points at (`recording/Walk.walk`, by
+-- `recording/Record.placeWithin`), counted from the recording's front; the records began at the place `from`.
 abbrev pub endedAs : Ending → (from length : ℕ) → Answer
 endedAs Done from length = A.Done (record { 0 = length })
 endedAs (Stops x at) from length = refusedAs x (record { 0 = from + at .0 })

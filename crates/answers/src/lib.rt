@@ -38,7 +38,7 @@ pub fn refused(refusal: Refusal, at: Place) -> Answer
     }
 }
 
-// The answer where the records end: done at the recording's length, or refused at the first byte of the record that is none. The records began at the
+// The answer where the records end: done at the recording's length, or refused at the place that the refusal points at. The records began at the
 // place `from`, and places are counted from the recording's front.
 pub fn ended(ending: Ending, from: usize, length: usize) -> Answer
     requires { ⌜ Inside ending from length ⌝ }

@@ -12,6 +12,7 @@ use character_known::shown_on;
 use character_known::taken;
 use recording::Ending;
 use recording::Read;
+use recording::place_of;
 use recording::record_at;
 use terms::Event;
 use terms::Part;
@@ -69,8 +70,9 @@ pub fn character_walk(part: Part, k: Knowledge, bytes: &[u8]) -> CharacterWalked
                 i += length;
             }
             Read::Refused(refusal) => {
+                let at = place_of(refusal, bytes, Place(i));
                 return CharacterWalked {
-                    ending: Ending::Stops(refusal, Place(i)),
+                    ending: Ending::Stops(refusal, at),
                     k: Knowledge {
                         dcram,
                         cgram,

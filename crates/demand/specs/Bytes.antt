@@ -12,7 +12,7 @@ use Rattle.terms.specs.declared.Part.{Part}
 use Rattle.recording.specs.declared.read.Read.{Read}
 use Rattle.recording.specs.declared.read.Read.the-variants.{Is, Refused}
 use Rattle.recording.specs.Record.{listed, belongs, bodyOf, allowed, eventOf, front}
-use Rattle.recording.specs.Walk.{next, stops, walk, events}
+use Rattle.recording.specs.Walk.{step, walk, events}
 use Rattle.whole.specs.Usual.{Each}
 use Rattle.demand.specs.Recording.{AllBytes, eventsFrom}
 
@@ -54,7 +54,7 @@ walk-carries (suc n) p at [] h = tt
 walk-carries (suc n) p at (b ∷ l) h = go (front p (b ∷ l)) (carried p (b ∷ l) h) (λ m. walk-carries n p (at + m) (drop m (b ∷ l)) (drop-bytes m (b ∷ l) h))
   where
     go : (r : Read) → Carried r → ((m : ℕ) → Each Bytes (events (walk n p (at + m) (drop m (b ∷ l)))))
-        → Each Bytes (events (elim r [ Is e m ↦ next at e (walk n p (at + m) (drop m (b ∷ l))) | Refused x ↦ stops x at ]))
+        → Each Bytes (events (step at b (λ m. walk n p (at + m) (drop m (b ∷ l))) r))
     go (Is e m) c ih = (c, ih m)
     go (Refused x) c ih = tt
 

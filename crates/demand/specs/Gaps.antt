@@ -19,7 +19,7 @@ use Rattle.recording.specs.declared.read.Read.the-variants.{Is, Refused}
 use Rattle.recording.specs.declared.ending.Ending.{Ending}
 use Rattle.recording.specs.declared.ending.Ending.the-variants.{Done, Stops}
 use Rattle.recording.specs.Record.{listed, belongs, bodyOf, allowed, eventOf, front}
-use Rattle.recording.specs.Walk.{Walk, stops, next, walk, walked, events, endOf, onGap, behindGap}
+use Rattle.recording.specs.Walk.{Walk, stops, next, step, walk, walked, events, endOf, onGap, behindGap}
 use Rattle.recording.specs.Steps.{record-fits, enough}
 use Rattle.recording.specs.Append.{shifted, from-place}
 use Rattle.whole.specs.Sentence.{isGap, hasGap}
@@ -144,11 +144,11 @@ search-gap (suc n) p from at (b ∷ l) h q =
     go (front p (b ∷ l)) refl (gap-is-one p (b ∷ l)) q (λ f m x y. search-gap n p f (at + m) (drop m (b ∷ l)) x y)
   where
     go : (r : Read) → front p (b ∷ l) ≡ r → GapIsOne r
-        → endOf (elim r [ Is e m ↦ next at e (walk n p (at + m) (drop m (b ∷ l))) | Refused x ↦ stops x at ]) ≡ Done
+        → endOf (step at b (λ m. walk n p (at + m) (drop m (b ∷ l))) r) ≡ Done
         → ((f m : ℕ) → length (drop m (b ∷ l)) ≤ n → endOf (walk n p (at + m) (drop m (b ∷ l))) ≡ Done
         → ByGap (hasGap (events (walk n p (at + m) (drop m (b ∷ l))))) p f (at + m) (drop m (b ∷ l)) (walk n p (at + m) (drop m (b ∷ l))))
-        → ByGap (hasGap (events (elim r [ Is e m ↦ next at e (walk n p (at + m) (drop m (b ∷ l))) | Refused x ↦ stops x at ]))) p from at (b ∷ l)
-        (elim r [ Is e m ↦ next at e (walk n p (at + m) (drop m (b ∷ l))) | Refused x ↦ stops x at ])
+        → ByGap (hasGap (events (step at b (λ m. walk n p (at + m) (drop m (b ∷ l))) r))) p from at (b ∷ l)
+        (step at b (λ m. walk n p (at + m) (drop m (b ∷ l))) r)
     go (Is e m) f one d ih =
         let fit = record-fits p (b ∷ l) e m f in
         let ld = length-drop m (b ∷ l) in

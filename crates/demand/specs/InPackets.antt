@@ -194,7 +194,8 @@ module _ (b : ℕ) (p : Part) (named : partOf b ≡ Is p) (s : Feed) (good : Goo
         close [] more h = absurd (more refl)
         close (x ∷ u) more h =
             let k = ends-left (last .feed) a (x ∷ u) (h .unfinished) (closed (good-last (Stops CutShort at) q tt)) in
-            record { numbered = k .numbered; placed = k .placed ∙ first }
+            let there = k .placed in
+            record { numbered = k .numbered; placed = omega (arith, there, first) }
 
     -- If it is refused by 5, 6 or 8: the packets are answered 0 until the one that lets it be told, and from then on by the
     -- same number and place; what is known is what the last good record left, nothing is unfinished, the total is that before

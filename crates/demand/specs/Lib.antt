@@ -13,3 +13,4 @@ pub mod InPackets
 pub mod NoFour
 pub mod TwoPackets
 pub mod Temperature
+pub mod Places

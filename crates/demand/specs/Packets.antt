@@ -19,7 +19,8 @@ use Rattle.walks.specs.Turn.{InTurn}
 use Rattle.parts.specs.Facts.{same?, range, move}
 use Rattle.recording.specs.Walk.{walked, events, endOf}
 use Rattle.recording.specs.Append.{shifted}
-use Rattle.recording.specs.Cut.{standsAt, leftBy, Open, open-back, open-on, walked-stops, stops-front, cut-open, left-behind, left-length}
+use Rattle.recording.specs.Cut.{standsAt, leftBy, Open, open-back, open-on, walked-stops, cut-open, left-behind, left-length}
+use Rattle.recording.specs.Points.{cut-front}
 use Rattle.recording.specs.Start.{CutOff, none, some, cut-off}
 use Rattle.recording.specs.Steps.{stops-within}
 use Rattle.recording.specs.declared.ending.Ending.{Ending}
@@ -63,7 +64,7 @@ left-cut-off p l = by (endOf (walked p l)) refl
     by (Stops CutShort at) q =
         let h = stops-within p l CutShort at q in
         let d = length-drop (at .0) l in
-        cut-off p (drop (at .0) l) (omega (arith, h, d)) (stops-front p l CutShort at q)
+        cut-off p (drop (at .0) l) (omega (arith, h, d)) (cut-front p l at q)
     by (Stops Forbidden at) q = none
 
 -- What a row leaves is good again, done, cut short or refused.

@@ -1,4 +1,4 @@
--- Paper 01's examples P1 to P14, P2 as M-101 reads it, in one table, proved by one test that computes and one law. A row has the number of
+-- Paper 01's examples P1 to P14, P2 as M-101 and P12 as M-104 read them, in one table, proved by one test that computes and one law. A row has the number of
 -- its example, the part, what is known before, the recording, its number and place, and what is known afterwards; the
 -- rows of P14 have the picture and the output, before and afterwards.
 use Prim.Native.Nat.{ℕ, zero, suc}
@@ -88,7 +88,7 @@ table =
     ∷ replayed 10 Pt6312 (somewhere ++ noughtsBut07 (known 0x09)) (0x03 ∷ 0x00 ∷ []) 0 2 (noughtsBut07 unknown)
     ∷ replayed 11 Pt6302 [] (0x01 ∷ 0x02 ∷ 0x03 ∷ 0x1F ∷ 0x03 ∷ 0x41 ∷ 0x03 ∷ 0x42 ∷ 0x04 ∷ []) 0 9 (ram (dcram 15) is known 0x41 ∷ ram (dcram 0) is known 0x42 ∷ [])
     ∷ replayed 12 Pt6312 (cells 0x00 22 (known 0x5A)) (0x02 ∷ 0x03 ∷ 0xC0 ∷ 0x06 ∷ 0x03 ∷ []) 0 5 (cells 0x00 22 (known 0x5A))
-    ∷ replayed 12 Pt6312 (cells 0x00 22 (known 0x5A)) (0x02 ∷ 0x03 ∷ 0xC0 ∷ 0x06 ∷ 0x08 ∷ []) 8 3 (fact position is unknown ∷ cells 0x00 22 (known 0x5A))
+    ∷ replayed 12 Pt6312 (cells 0x00 22 (known 0x5A)) (0x02 ∷ 0x03 ∷ 0xC0 ∷ 0x06 ∷ 0x08 ∷ []) 8 4 (fact position is unknown ∷ cells 0x00 22 (known 0x5A))
     ∷ replayed 13 Pt6312 [] (keys []) 0 8 (next is known 0x12 ∷ [])
     ∷ replayed 13 Pt6312 [] (keys (0x09 ∷ [])) 0 9 (next is known 0x34 ∷ [])
     ∷ replayed 13 Pt6312 [] (keys (0x09 ∷ 0x09 ∷ 0x09 ∷ [])) 0 11 (next is known notDriven ∷ [])

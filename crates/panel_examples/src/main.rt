@@ -1,5 +1,5 @@
 // Runs the examples of the file stdin, a line each, and writes each line back with what it comes to. It is compared with the file stdout, whose values
-// are from paper 01, and of packets, the ring of cells, updates and temperatures from paper 02 (M-100 to M-103).
+// are from paper 01, and of packets, the ring of cells, updates, temperatures and the places of 8 from paper 02 (M-100 to M-104).
 //
 // A line that is a name, events, recordings, packets, updates or temperatures, says what the lines behind it are; a line that begins with # is a remark. Every other line begins
 // with a part byte, or is a packet and begins with /. Bytes are in hex, with a space between; words say what is known before, and their numbers are in hex.

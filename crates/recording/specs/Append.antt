@@ -18,9 +18,10 @@ use Rattle.recording.specs.declared.read.Refusal.{Refusal}
 use Rattle.recording.specs.declared.read.Refusal.the-variants.{Unlisted, Foreign, CutShort, Forbidden}
 use Rattle.recording.specs.declared.ending.Ending.{Ending}
 use Rattle.recording.specs.declared.ending.Ending.the-variants.{Done, Stops}
-use Rattle.recording.specs.Record.{listed, belongs, bodyOf, ofBody, ofKind, front}
-use Rattle.recording.specs.Walk.{Walk, next, stops, walk, events, endOf}
+use Rattle.recording.specs.Record.{listed, belongs, bodyOf, ofBody, ofKind, front, placeWithin}
+use Rattle.recording.specs.Walk.{Walk, step, walk, events, endOf}
 use Rattle.recording.specs.Laws.{other-body}
+use Rattle.recording.specs.Steps.{stops-there}
 
 -- A body is looked at no further than it goes.
 same-body : (p : Part) (k : ℕ) (l m : List ℕ) → ((j : ℕ) → j ≤ bodyOf k → getD l j 0 ≡ getD m j 0) → ofBody p k l ≡ ofBody p k m
@@ -38,7 +39,7 @@ same-body p (suc (suc (suc (suc (suc (suc (suc (suc (suc n))))))))) l m h = othe
     other : (x : List ℕ) → ofBody p (suc (suc (suc (suc (suc (suc (suc (suc (suc n))))))))) x ≡ Is ByteOut 1
     other x = other-body p (suc (suc (suc (suc (suc (suc (suc (suc (suc n))))))))) x (λ e. omega arith) (λ e. omega arith) (λ e. omega arith) (λ e. omega arith) (λ e. omega arith) (λ e. omega arith) (λ e. omega arith) (λ e. omega arith)
 
-getD-append : (l m : List ℕ) (j : ℕ) → j < length l → getD l j 0 ≡ getD (l ++ m) j 0
+pub getD-append : (l m : List ℕ) (j : ℕ) → j < length l → getD l j 0 ≡ getD (l ++ m) j 0
 getD-append [] m j h = absurd (omega arith)
 getD-append (x ∷ l) m zero h = refl
 getD-append (x ∷ l) m (suc j) h = getD-append l m j (omega arith)
@@ -76,12 +77,9 @@ abbrev pub shifted : ℕ → Ending → Ending
 shifted n Done = Done
 shifted n (Stops r at) = Stops r (record { 0 = n + at .0 })
 
-same-end : (r : Refusal) (i j : ℕ) → i ≡ j → Stops r (record { 0 = i }) ≡ Stops r (record { 0 = j })
-same-end r i j e = λ k. Stops r (record { 0 = e k })
-
 pub shift-shift : (a b : ℕ) (e : Ending) → shifted a (shifted b e) ≡ shifted (a + b) e
 shift-shift a b Done = refl
-shift-shift a b (Stops r at) = same-end r (a + (b + at .0)) (a + b + at .0) (omega arith)
+shift-shift a b (Stops r at) = stops-there r (record { 0 = a + (b + at .0) }) (a + b + at .0) (omega arith)
 
 -- What one walk says that another does, the places shifted by `at`.
 pub record Follows (at : ℕ) (w v : Walk) : Type 0 where
@@ -95,12 +93,12 @@ from-place (suc n) p at [] = record { same = refl; ends = refl }
 from-place (suc n) p at (b ∷ l) = go (front p (b ∷ l)) (λ m i. from-place n p i (drop m (b ∷ l)))
   where
     go : (r : Read) → ((m i : ℕ) → Follows i (walk n p i (drop m (b ∷ l))) (walk n p 0 (drop m (b ∷ l))))
-        → Follows at (elim r [ Is e m ↦ next at e (walk n p (at + m) (drop m (b ∷ l))) | Refused x ↦ stops x at ])
-        (elim r [ Is e m ↦ next 0 e (walk n p (0 + m) (drop m (b ∷ l))) | Refused x ↦ stops x 0 ])
+        → Follows at (step at b (λ m. walk n p (at + m) (drop m (b ∷ l))) r)
+        (step 0 b (λ m. walk n p (0 + m) (drop m (b ∷ l))) r)
     go (Is e m) ih = record {
       same = ap (λ (es : List Event). e ∷ es) (ih m (at + m) .same ∙ sym (ih m (0 + m) .same));
       ends =
           let z : at + (0 + m) ≡ at + m = omega arith in
           ih m (at + m) .ends ∙ sym (ap (shifted at) (ih m (0 + m) .ends) ∙ shift-shift at (0 + m) (endOf (walk n p 0 (drop m (b ∷ l)))) ∙ ap (λ (i : ℕ). shifted i (endOf (walk n p 0 (drop m (b ∷ l))))) z);
     }
-    go (Refused x) ih = record { same = refl; ends = same-end x at (at + 0) (omega arith) }
+    go (Refused x) ih = record { same = refl; ends = stops-there x (record { 0 = at + placeWithin x b }) (at + (0 + placeWithin x b)) (omega arith) }

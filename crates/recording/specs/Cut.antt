@@ -5,10 +5,9 @@ use Prim.Native.Nat.{ℕ, zero, suc, _+_, _<_, _≤_}
 use native.Mathlib.Omega.{arith}
 use mathlib.Core.Path.{_≡_, refl, sym, ap, _∙_, subst}
 use mathlib.Core.List.{List, [], _∷_, _++_}
-use lib.ListN.{length, drop, length-drop, length-append}
+use lib.ListN.{length, drop, getD, length-drop, length-append}
 use lib.Seq.{drop-append-seam, drop-append-le, drop-drop}
 use Rattle.terms.specs.declared.Event.{Event}
-use Rattle.terms.specs.declared.Place.{Place}
 use Rattle.terms.specs.declared.Part.{Part}
 use Rattle.recording.specs.declared.read.Read.{Read}
 use Rattle.recording.specs.declared.read.Read.the-variants.{Is, Refused}
@@ -16,12 +15,12 @@ use Rattle.recording.specs.declared.read.Refusal.{Refusal}
 use Rattle.recording.specs.declared.read.Refusal.the-variants.{Unlisted, Foreign, CutShort, Forbidden}
 use Rattle.recording.specs.declared.ending.Ending.{Ending}
 use Rattle.recording.specs.declared.ending.Ending.the-variants.{Done, Stops}
-use Rattle.recording.specs.Record.{front}
+use Rattle.recording.specs.Record.{front, placeWithin}
 use Rattle.recording.specs.Walk.{walked, events, endOf}
-use Rattle.recording.specs.Steps.{record-fits, rest-next, rest-stops, stops-within}
-use Rattle.recording.specs.Append.{Told, front-append, shifted, shift-shift, from-place}
+use Rattle.recording.specs.Steps.{record-fits, rest-next, rest-stops, stops-there, stops-within}
+use Rattle.recording.specs.Append.{Told, getD-append, front-append, shifted, shift-shift, from-place}
 
--- Where a walk over l stands at its end: behind the last byte, or at the record that it stopped at.
+-- Where a walk over l stands at its end: behind the last byte, or where it stopped.
 abbrev pub standsAt : Ending → List ℕ → ℕ
 standsAt Done l = length l
 standsAt (Stops x at) l = at .0
@@ -60,8 +59,11 @@ module _ (p : Part) (l : List ℕ) (some : 0 < length l) where
       }
 
   -- No record at the front.
-  pub walked-stops : (x : Refusal) → front p l ≡ Refused x → (events (walked p l) ≡ []) × (endOf (walked p l) ≡ Stops x (record { 0 = 0 }))
-  walked-stops x q = let n = rest-stops p l 0 x some q in (ap events n, ap endOf n)
+  pub walked-stops : (x : Refusal) → front p l ≡ Refused x
+      → (events (walked p l) ≡ []) × (endOf (walked p l) ≡ Stops x (record { 0 = placeWithin x (getD l 0 0) }))
+  walked-stops x q =
+      let n = rest-stops p l 0 x some q in
+      (ap events n, ap endOf n ∙ stops-there x (record { 0 = 0 + placeWithin x (getD l 0 0) }) (placeWithin x (getD l 0 0)) (omega arith))
 
 -- What a walk over l comes to when m follows.
 abbrev Behind : Part → Ending → List ℕ → List ℕ → Type 0
@@ -131,20 +133,20 @@ module _ (p : Part) (l m : List ℕ) (some : 0 < length l) (e : Event) (k : ℕ)
           (both .same ∙ ap (λ (es : List Event). e ∷ es) (g .0) ∙ sym (first .same), both .ends ∙ ap (shifted k) (g .1))
 
 -- No record in front.
-stopped : (p : Part) (l m : List ℕ) (x : Refusal) → 0 < length l → front p l ≡ Refused x → Behind p (Stops x (record { 0 = 0 })) l m
+stopped : (p : Part) (l m : List ℕ) (x : Refusal) → 0 < length l → front p l ≡ Refused x → Behind p (Stops x (record { 0 = placeWithin x (getD l 0 0) })) l m
 stopped p l m x some q = go x q
   where
     a : length (l ++ m) ≡ length l + length m
     a = length-append l m
 
     shut : (y : Refusal) → Told (Refused y) → front p l ≡ Refused y
-        → (events (walked p (l ++ m)) ≡ events (walked p l)) × (endOf (walked p (l ++ m)) ≡ Stops y (record { 0 = 0 }))
+        → (events (walked p (l ++ m)) ≡ events (walked p l)) × (endOf (walked p (l ++ m)) ≡ Stops y (record { 0 = placeWithin y (getD l 0 0) }))
     shut y told r =
         let w = walked-stops p l some y r in
         let v = walked-stops p (l ++ m) (omega (arith, a)) y (front-append p l m (Refused y) told some r) in
-        (v .0 ∙ sym (w .0), v .1)
+        (v .0 ∙ sym (w .0), v .1 ∙ stops-there y (record { 0 = placeWithin y (getD (l ++ m) 0 0) }) (placeWithin y (getD l 0 0)) (ap (placeWithin y) (sym (getD-append l m 0 some))))
 
-    go : (y : Refusal) → front p l ≡ Refused y → Behind p (Stops y (record { 0 = 0 })) l m
+    go : (y : Refusal) → front p l ≡ Refused y → Behind p (Stops y (record { 0 = placeWithin y (getD l 0 0) })) l m
     go Unlisted r = (λ o. absurd o, λ _. shut Unlisted tt r)
     go Foreign r = (λ o. absurd o, λ _. shut Foreign tt r)
     go CutShort r = (
@@ -187,35 +189,6 @@ module _ (p : Part) (l m : List ℕ) where
   pub cut-told : (Open (endOf (walked p l)) → ⊥)
       → (events (walked p (l ++ m)) ≡ events (walked p l)) × (endOf (walked p (l ++ m)) ≡ endOf (walked p l))
   cut-told = behind (length l) p l m (omega arith) .1
-
--- Where a walk stops, the bytes from there on are no record, by that refusal.
-AtStop : Part → List ℕ → Ending → Type 0
-AtStop p l Done = Unit
-AtStop p l (Stops x at) = front p (drop (at .0) l) ≡ Refused x
-
-at-stop : (n : ℕ) (p : Part) (l : List ℕ) → length l ≤ n → AtStop p l (endOf (walked p l))
-unfolding AtStop
-at-stop zero p [] h = tt
-at-stop zero p (b ∷ l) h = absurd (omega arith)
-at-stop (suc n) p [] h = tt
-at-stop (suc n) p (b ∷ l) h = go (front p (b ∷ l)) refl (λ k x. at-stop n p (drop k (b ∷ l)) x)
-  where
-    on : (k : ℕ) (x : Ending) → AtStop p (drop k (b ∷ l)) x → AtStop p (b ∷ l) (shifted k x)
-    on k Done s = tt
-    on k (Stops x at) s = subst (λ (m : List ℕ). front p m ≡ Refused x) (drop-drop (at .0) k (b ∷ l)) s
-
-    go : (r : Read) → front p (b ∷ l) ≡ r → ((k : ℕ) → length (drop k (b ∷ l)) ≤ n → AtStop p (drop k (b ∷ l)) (endOf (walked p (drop k (b ∷ l)))))
-        → AtStop p (b ∷ l) (endOf (walked p (b ∷ l)))
-    go (Is e k) q ih =
-        let f = record-fits p (b ∷ l) e k q in
-        let d = length-drop k (b ∷ l) in
-        subst (AtStop p (b ∷ l)) (sym (walked-next p (b ∷ l) (omega arith) e k q .ends))
-        (on k (endOf (walked p (drop k (b ∷ l)))) (ih k (omega (arith, f, d))))
-    go (Refused x) q ih = subst (AtStop p (b ∷ l)) (sym (walked-stops p (b ∷ l) (omega arith) x q .1)) q
-
-pub stops-front : (p : Part) (l : List ℕ) (x : Refusal) (at : Place) → endOf (walked p l) ≡ Stops x at → front p (drop (at .0) l) ≡ Refused x
-unfolding AtStop
-stops-front p l x at q = subst (AtStop p l) q (at-stop (length l) p l (omega arith))
 
 -- What is left stands behind where the walk stood, and whatever follows stands behind that.
 module _ (p : Part) (l m : List ℕ) where

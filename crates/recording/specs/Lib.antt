@@ -5,3 +5,5 @@ pub mod Steps
 pub mod Append
 pub mod Cut
 pub mod Start
+pub mod Points
+pub mod Fault

@@ -103,3 +103,11 @@ number Unlisted = 5
 number Foreign = 6
 number CutShort = 7
 number Forbidden = 8
+
+-- The place of a refusal within its record, whose first byte is its kind (M-104): 8 points at the body byte at fault, which
+-- is the byte behind the kind for 06 and 08, and the fourth body byte for 07; 5, 6 and 7 point at the record's first byte.
+abbrev pub placeWithin : Refusal → (kind : ℕ) → ℕ
+placeWithin Unlisted kind = 0
+placeWithin Foreign kind = 0
+placeWithin CutShort kind = 0
+placeWithin Forbidden kind = whether (eqb kind 7) 4 1

@@ -5,24 +5,30 @@ use lib.ListN.{length, drop}
 use Rattle.terms.specs.declared.Event.{Event}
 use Rattle.terms.specs.declared.Event.the-variants.{Power, Falls, ByteIn, Rises, Gap, Unfinished, Keys, Switches, ByteOut}
 use Rattle.terms.specs.declared.Part.{Part}
+use Rattle.recording.specs.declared.read.Read.{Read}
 use Rattle.recording.specs.declared.read.Read.the-variants.{Is, Refused}
 use Rattle.recording.specs.declared.read.Refusal.{Refusal}
 use Rattle.recording.specs.declared.ending.Ending.{Ending}
 use Rattle.recording.specs.declared.ending.Ending.the-variants.{Done, Stops}
-use Rattle.recording.specs.Record.{front}
+use Rattle.recording.specs.Record.{front, placeWithin}
 
--- Done at the end; or refused at the place of the record's first byte; or a record at a place, and what follows it.
+-- Done at the end; or refused at the place that the refusal points at; or a record at a place, and what follows it.
 pub data Walk : Type 0 where
   done : Walk
   stops : Refusal → ℕ → Walk
   next : ℕ → Event → Walk → Walk
 
+-- What the record at the place `at`, whose first byte is `kind`, comes to: its event, and `behind` what follows the record's
+-- bytes; or its refusal, where that points.
+abbrev pub step : (at kind : ℕ) (behind : ℕ → Walk) → Read → Walk
+step at kind behind (Is e m) = next at e (behind m)
+step at kind behind (Refused r) = stops r (at + placeWithin r kind)
+
 -- At most `steps` records, from the byte at the place `at` on.
-abbrev pub walk : ℕ → Part → ℕ → List ℕ → Walk
+abbrev pub walk : (steps : ℕ) → Part → (at : ℕ) → List ℕ → Walk
 walk zero p at l = done
 walk (suc n) p at [] = done
-walk (suc n) p at (b ∷ l) =
-    elim (front p (b ∷ l)) [ Is e m ↦ next at e (walk n p (at + m) (drop m (b ∷ l))) | Refused r ↦ stops r at ]
+walk (suc n) p at (b ∷ l) = step at b (λ m. walk n p (at + m) (drop m (b ∷ l))) (front p (b ∷ l))
 
 -- A recording has no more records than bytes.
 abbrev pub walked : Part → List ℕ → Walk

@@ -11,11 +11,10 @@ use Rattle.terms.specs.declared.Event.{Event}
 use Rattle.terms.specs.declared.Event.the-variants.{ByteIn, Rises}
 use Rattle.terms.specs.declared.Part.{Part}
 use Rattle.terms.specs.Event.{recorded, recording, strobe}
-use Rattle.recording.specs.declared.read.Read.{Read}
-use Rattle.recording.specs.declared.read.Read.the-variants.{Is, Refused}
+use Rattle.recording.specs.declared.read.Read.the-variants.{Is}
 use Rattle.recording.specs.declared.ending.Ending.the-variants.{Done}
 use Rattle.recording.specs.Record.{front}
-use Rattle.recording.specs.Walk.{Walk, stops, next, walk, walked, events, endOf}
+use Rattle.recording.specs.Walk.{Walk, next, step, walk, walked, events, endOf}
 use Rattle.recording.specs.Steps.{record-fits}
 use Rattle.recording.specs.Append.{front-append}
 use Rattle.whole.specs.Usual.{Each}
@@ -40,10 +39,7 @@ walk-next : (n : ℕ) (p : Part) (at : ℕ) (l : List ℕ) (e : Event) (m : ℕ)
     → (k : ℕ) × (n ≡ suc k) × (walk n p at l ≡ next at e (walk k p (at + m) (drop m l)))
 walk-next zero p at l e m h q = absurd (omega (arith, record-fits p l e m q))
 walk-next (suc n) p at [] e m h q = absurd (omega (arith, record-fits p [] e m q))
-walk-next (suc n) p at (b ∷ l) e m h q = (n, refl, ap by q)
-  where
-    by : Read → Walk
-    by r = elim r [ Is x k ↦ next at x (walk n p (at + k) (drop k (b ∷ l))) | Refused x ↦ stops x at ]
+walk-next (suc n) p at (b ∷ l) e m h q = (n, refl, ap (step at b (λ k. walk n p (at + k) (drop k (b ∷ l)))) q)
 
 -- The walk over a recording of es reads each of them, and is done.
 abbrev Reads : List Event → Walk → Type 0

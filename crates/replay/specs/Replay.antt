@@ -34,8 +34,8 @@ pub record PartDone (p : Part) (es : List Event) (k : Panel) (l : List ℕ) (r :
   pub known : InTurn (knownOf p) (same? p) (range p) (move p) es k (r .panel)
   pub kept : OtherKept p k (r .panel)
 
--- By how the records end: P where they are done, else 5, 6, 7 or 8 at the record's first byte, counted from the front
--- of the whole recording.
+-- By how the records end: P where they are done, else 5, 6, 7 or 8 at the place that the refusal points at
+-- (`recording/Walk.walk`, by `recording/Record.placeWithin`), counted from the front of the whole recording.
 abbrev pub ByEnding : Ending → ℕ → Panel → Replayed → Type 0 → Type 0
 ByEnding Done start k r P = P
 ByEnding (Stops x at) start k r P = RefusedBy (Record.number x) (start + at .0) k r

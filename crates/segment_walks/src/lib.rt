@@ -2,6 +2,7 @@
 use changes::put;
 use recording::Ending;
 use recording::Read;
+use recording::place_of;
 use recording::record_at;
 use segment::Family;
 use segment_knowledge::Control;
@@ -74,8 +75,9 @@ fn walk(part: Part, family: Family, first: [u16; 36], was: Control, bytes: &[u8]
                 i += length;
             }
             Read::Refused(refusal) => {
+                let at = place_of(refusal, bytes, Place(i));
                 return SegmentWalked {
-                    ending: Ending::Stops(refusal, Place(i)),
+                    ending: Ending::Stops(refusal, at),
                     k: Knowledge { cells, control },
                 };
             }

@@ -24,8 +24,8 @@ spot n = record { 0 = n }
 abbrev pub none : Answer → Found
 none a = record { answer = a; start = spot 0; end = spot 0 }
 
--- By how the records end: done at the recording's length, behind the last gap; else 5, 6, 7 or 8 at the record's
--- first byte.
+-- By how the records end: done at the recording's length, behind the last gap; else 5, 6, 7 or 8 at the place that the
+-- refusal points at (`recording/Walk.walk`, by `recording/Record.placeWithin`).
 abbrev pub foundBy : Part → List ℕ → Ending → Found
 foundBy p l Done = record {
   answer = A.Done (spot (length l));

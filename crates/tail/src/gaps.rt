@@ -2,6 +2,7 @@
 use answers::Answer;
 use answers::refused;
 use recording::Read;
+use recording::place_of;
 use recording::record_at;
 use tail_starts::behind;
 use terms::Part;
@@ -29,8 +30,9 @@ pub fn walk_gaps(part: Part, bytes: &[u8]) -> Found
                 i += length;
             }
             Read::Refused(refusal) => {
+                let at = place_of(refusal, bytes, Place(i));
                 return Found {
-                    answer: refused(refusal, Place(i)),
+                    answer: refused(refusal, at),
                     start: Place(0),
                     end: Place(0),
                 };

@@ -14,8 +14,8 @@ count-of-requires c κs = search needs
 sub-first : tie.Need-sub-first
 sub-first c = search needs
 
-add-halts : tie.Need-add-halts
-add-halts c = search needs
+add-place : tie.Need-add-place
+add-place c = search needs
 
 halts-requires : tie.Need-halts-requires
 halts-requires c κs = search needs
@@ -26,4 +26,4 @@ returns c = let a = c .before .before .before .args in
 
 pub begun-refused-spec : {M : Type 1} → statement M
 begun-refused-spec =
-    tie.close (tie.spec count-of-requires sub-first add-halts halts-requires returns)
+    tie.close (tie.spec count-of-requires sub-first add-place halts-requires returns)

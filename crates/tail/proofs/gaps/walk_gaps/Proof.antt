@@ -5,7 +5,7 @@ use mathlib.Core.Path.{sym, _∙_}
 use native.Mathlib.Omega.{arith}
 use Prim.Native.Nat.{_+_, _≤_, _-_}
 use lib.ListN.{length, drop, length-drop}
-use Rattle.recording.specs.Steps.{rest, rest-end, rest-next, rest-stops, record-fits}
+use Rattle.recording.specs.Steps.{rest, rest-end, rest-next, rest-stops, record-fits, stop-fits}
 use Rattle.recording.specs.Walk.{walked}
 use Rattle.tail.specs.Laws.{Kept, kept-start, kept-next, found-done, found-stops}
 use Rattle.tail.proofs.gaps.walk_gaps.Statement.{statement}
@@ -54,13 +54,20 @@ loop-again c = let a = c .before .before .before .before .before .before .before
 enum-known-read-2 : tie.Need-enum-known-read-2 Inv-loop μ-loop
 enum-known-read-2 c = search needs
 
+place-of-requires : tie.Need-place-of-requires Inv-loop μ-loop
+place-of-requires c κs = let a = c .before .before .before .before .before .before .before .args in
+    stop-fits (a .part) (a .bytes .now) (c .before .before .before .before .before .loop .i) _ (c .before .before .before .before .loop-test .taken) (sym (c .before .before .before .record-at .ensures) ∙ c .before .read2 .given .1)
+
 refused-requires : tie.Need-refused-requires Inv-loop μ-loop
 refused-requires c κs = search needs
 
 returns : tie.Need-returns Inv-loop μ-loop
-returns c = let a = c .before .before .before .before .before .before .before .before .args in
-    let h = rest-stops (a .part) (a .bytes .now) (c .before .before .before .before .before .before .loop .i) _ (c .before .before .before .before .before .loop-test .taken) (sym (c .before .before .before .before .record-at .ensures) ∙ c .before .before .read2 .given .1) in
-    (λ j. record { answer = c .refused .ensures j; start = record { 0 = 0 }; end = record { 0 = 0 } }) ∙ found-stops (a .part) (a .bytes .now) (rest (a .part) (a .bytes .now) (c .before .before .before .before .before .before .loop .i)) (c .before .before .before .before .before .before .loop .start) (c .before .before .before .before .before .before .loop .i) _ h (c .before .before .before .before .before .before .loop .inv .1)
+returns c = let k = c .before .before in
+    let a = k .before .before .before .before .before .before .before .args in
+    let at = k .before .before .before .before .before .loop in
+    let h = rest-stops (a .part) (a .bytes .now) (at .i) _ (k .before .before .before .before .loop-test .taken) (sym (k .before .before .before .record-at .ensures) ∙ k .before .read2 .given .1) in
+    (λ j. record { answer = c .refused .ensures j; start = record { 0 = 0 }; end = record { 0 = 0 } })
+    ∙ found-stops (a .part) (a .bytes .now) (rest (a .part) (a .bytes .now) (at .i)) (at .start) (c .before .place-of .result) _ _ (c .before .place-of .ensures) h (at .inv .1)
 
 returns-2 : tie.Need-returns-2 Inv-loop μ-loop
 returns-2 c = let a = c .before .before .before .args in
@@ -82,6 +89,7 @@ walk-gaps-spec =
     loop-less
     loop-again
     enum-known-read-2
+    place-of-requires
     refused-requires
     returns
     returns-2)

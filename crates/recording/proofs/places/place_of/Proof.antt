@@ -1,0 +1,59 @@
+-- `recording::places::place_of` meets its contract: refusal by refusal, as the definition has them.
+-- Assumes nothing.
+use native.Mathlib.Omega.{arith}
+use Prim.Native.Nat.{ℕ, _+_}
+use mathlib.Core.Path.{ap}
+use borrow.Author.Needs.{needs}
+use Rattle.recording.proofs.places.place_of.Statement.{statement}
+use Rattle.recording.proofs.places.place_of.Tie as tie
+
+shared-slice-read-fault-of : tie.Need-shared-slice-read-fault-of
+shared-slice-read-fault-of c = search needs
+
+fault-of-requires : tie.Need-fault-of-requires
+fault-of-requires c κs = search needs
+
+enum-told : tie.Need-enum-told
+enum-told c = search needs
+
+enum-told-2 : tie.Need-enum-told-2
+enum-told-2 c = search needs
+
+enum-told-3 : tie.Need-enum-told-3
+enum-told-3 c = search needs
+
+enum-told-4 : tie.Need-enum-told-4
+enum-told-4 c = search needs
+
+add-t9 : tie.Need-add-t9
+add-t9 c = let s = c .before .before .before .before .before in
+    let inside = rw (c .enum-told4 .given .1) at (s .pre) in
+    record { fits = omega (arith, inside, c .before .before .fault-of .ensures, s .good) }
+
+returns : tie.Need-returns
+returns c = rw (c .enum-told .given .1) (omega arith)
+
+returns-2 : tie.Need-returns-2
+returns-2 c = rw (c .enum-told2 .given .1) (omega arith)
+
+returns-3 : tie.Need-returns-3
+returns-3 c = rw (c .enum-told3 .given .1) (omega arith)
+
+returns-4 : tie.Need-returns-4
+returns-4 c = rw (c .enum-told4 .given .1) (ap (λ (n : ℕ). c .before .before .before .before .before .args .first .0 + n) (c .before .before .fault-of .ensures))
+
+pub place-of-spec : {M : Type 1} → statement M
+place-of-spec =
+    tie.close
+    (tie.spec
+    shared-slice-read-fault-of
+    fault-of-requires
+    enum-told
+    enum-told-2
+    enum-told-3
+    enum-told-4
+    add-t9
+    returns
+    returns-2
+    returns-3
+    returns-4)

@@ -1,0 +1,33 @@
+// Where a refusal points.
+use crate::read::Refusal;
+use terms::Place;
+ghost use mathlib.Core.Path.{_≡_};
+ghost use Prim.Native.Nat.{_+_, _<_};
+ghost use lib.ListN.{length, getD};
+ghost use Rattle.recording.specs.Record.{placeWithin};
+ghost use Rattle.recording.specs.declared.read.Refusal.the-variants.{Forbidden};
+
+// The place of a refusal, where the record that is none starts at the place `first`.
+pub fn place_of(refusal: Refusal, bytes: &[u8], first: Place) -> Place
+    requires { ⌜ first .0 + placeWithin refusal (getD (now bytes) (first .0) 0) < length (now bytes) ⌝ }
+    ensures { λ r. ⌜ r .0 ≡ first .0 + placeWithin refusal (getD (now (bytes .entry)) (first .0) 0) ⌝ }
+{
+    let i = first.0;
+    let fault = fault_of(bytes[i]);
+    match refusal {
+        Refusal::Unlisted => first,
+        Refusal::Foreign => first,
+        Refusal::CutShort => first,
+        Refusal::Forbidden => Place(i + fault),
+    }
+}
+
+// How far behind the kind the body byte at fault stands.
+fn fault_of(kind: u8) -> usize
+    ensures { λ r. ⌜ r ≡ placeWithin Forbidden kind ⌝ }
+{
+    match kind {
+        7 => 4,
+        _ => 1,
+    }
+}
