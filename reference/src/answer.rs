@@ -3,8 +3,8 @@
 /// The longest recording that is taken.
 pub const LONGEST: usize = 65_535;
 
-/// What a replay gives back, an update and a temperature: a number from the papers' table, and a place counted from the
-/// recording's front.
+/// What a replay gives back, a tail, a packet, an update and a temperature: a number from the papers' table, and a place
+/// counted from the front of the recording or of the first packet.
 #[derive(Clone, Copy, Debug, PartialEq, Eq)]
 pub struct Answer {
     pub number: u8,

@@ -1,8 +1,10 @@
-//! Lines of the sections `updates` and `temperatures` of the program `panel_examples`, as far as they are alike.
+//! Lines of the sections `recordings`, `packets`, `updates` and `temperatures` of the program `panel_examples`, as far
+//! as they are alike.
 //!
-//! A line has a part byte; words that say what is known, which is everything unless they say otherwise; a number behind
-//! an `@`, or none; and bytes. All numbers are in hex.
+//! A line has a part byte; words that say what is known; a number behind an `@`, or none; a refusal behind a `$`, or
+//! none; and bytes. All numbers are in hex.
 
+use crate::answer::Answer;
 use std::collections::BTreeMap;
 
 pub struct Line {
@@ -10,6 +12,8 @@ pub struct Line {
     pub words: Vec<Word>,
     /// The number behind the `@`.
     pub number: Option<usize>,
+    /// The refusal behind the `$`, which may be none that stands.
+    pub refusal: Option<Answer>,
     pub bytes: Vec<u8>,
 }
 
@@ -21,17 +25,22 @@ impl Line {
             part: byte_in(pieces.next().expect("a line has a part byte")),
             words: Vec::new(),
             number: None,
+            refusal: None,
             bytes: Vec::new(),
         };
+        let mut of_bytes = Vec::new();
         for piece in pieces {
             if let Some(number) = piece.strip_prefix('@') {
                 read.number = Some(number_in(number));
+            } else if let Some(refusal) = piece.strip_prefix('$') {
+                read.refusal = Some(refusal_in(refusal));
             } else if piece.starts_with(|first: char| first.is_ascii_lowercase()) {
                 read.words.push(Word::read(piece));
             } else {
-                read.bytes.push(byte_in(piece));
+                of_bytes.push(piece);
             }
         }
+        read.bytes = bytes_in(of_bytes);
         read
     }
 }
@@ -92,10 +101,14 @@ impl Told {
         }
     }
 
+    pub fn forget_all(&mut self) {
+        self.0.values_mut().for_each(|fact| *fact = Saying::Unknown);
+    }
+
     /// `nothing` speaks of every fact, and any other word of its own.
     pub fn tell(&mut self, word: &Word) {
         match word.name {
-            'n' => self.0.values_mut().for_each(|fact| *fact = Saying::Unknown),
+            'n' => self.forget_all(),
             _ => self.say(word.name, word.at, word.saying),
         }
     }
@@ -136,6 +149,43 @@ fn saying_in(text: &str) -> Saying {
         None if text == "!" => Saying::Neither,
         None => Saying::Unknown,
     }
+}
+
+/// A number, and a place behind a `=`.
+fn refusal_in(text: &str) -> Answer {
+    let (number, place) = text.split_once('=').expect("a refusal has a place");
+    Answer::refused(byte_in(number), number_in(place))
+}
+
+/// What stands between `(` and `)*FFFE` is repeated until there are FFFEH bytes, if need be not to its end.
+pub fn bytes_in<'a>(pieces: impl IntoIterator<Item = &'a str>) -> Vec<u8> {
+    let (mut bytes, mut opened) = (Vec::new(), 0);
+    for piece in pieces {
+        if piece == "(" {
+            opened = bytes.len();
+        } else if let Some(length) = piece.strip_prefix(")*") {
+            let repeated = bytes[opened..].to_vec();
+            let more = number_in(length) - bytes.len();
+            bytes.extend(repeated.iter().cycle().take(more));
+        } else {
+            bytes.push(byte_in(piece));
+        }
+    }
+    bytes
+}
+
+/// A refusal that is none, as one behind a `$` may be, reads as done.
+pub fn answer_in_words(answer: Answer) -> String {
+    let Answer { number, place } = answer;
+    match number {
+        Answer::DONE => format!("done at {place}"),
+        _ => format!("refused {number} at {place}"),
+    }
+}
+
+/// Each byte behind a space.
+pub fn bytes_in_words(bytes: &[u8]) -> String {
+    bytes.iter().map(|byte| format!(" {byte:02X}")).collect()
 }
 
 fn byte_in(digits: &str) -> u8 {

@@ -6,24 +6,35 @@
 //!
 //! An update, which is paper 02's (M-102), sends a panel only those wanted cells that it is not known to have.
 //! A temperature (M-103) is what five cells in a row are known to show.
+//! A recording may come in packets (M-100), and its tail is what stands behind its last gap.
 
 pub mod answer;
 pub mod cells;
 pub mod character_panel;
 pub mod checksum;
 pub mod damage;
+pub mod example_character_panels;
+pub mod example_halves;
+pub mod example_key_panels;
+pub mod example_known;
 pub mod example_lines;
+pub mod example_packets;
+pub mod example_recordings;
+pub mod example_sections;
 pub mod example_temperatures;
 pub mod example_updates;
 pub mod fact;
 pub mod input;
 pub mod key_panel;
 pub mod knowledge;
+pub mod packets;
 pub mod painting;
 pub mod random;
+pub mod record;
 pub mod recording;
 pub mod replay;
 pub mod show;
+pub mod tail;
 pub mod temperature;
 pub mod thermo_input;
 pub mod trial_field_recordings;

@@ -1,6 +1,7 @@
 //! The replay: the tests that come first, then the records from the front.
 
 use crate::answer::{Answer, LONGEST};
+use crate::record::record_in_front;
 
 /// Knowledge of one part, with the moves of that part.
 pub trait Panel: Copy {
@@ -44,14 +45,20 @@ pub fn replay<P: Panel>(panel: &mut P, recording: &[u8], start: usize) -> Answer
         return Answer::done(recording.len());
     }
     *panel = before;
-    let place = recording.len() - unread.len();
-    Answer::refused(refusal_number::<P>(unread), place)
+    refusal::<P>(recording, unread)
+}
+
+/// The records stopped at what is unread, and places count from the front of the whole recording.
+#[cold]
+fn refusal<P: Panel>(recording: &[u8], unread: &[u8]) -> Answer {
+    let fault = record_in_front::<P>(unread).expect_err("a good record is not left unread");
+    fault.in_record_at(recording.len() - unread.len())
 }
 
 /// Handles the records in turn up to one that must be refused, and gives back what stands from there on.
 /// A loop of its own, kept out of its caller, leaves the compiler the most room for what happens at every record.
 #[inline(never)]
-fn move_by<'a, P: Panel>(panel: &mut P, mut records: &'a [u8]) -> &'a [u8] {
+pub(crate) fn move_by<'a, P: Panel>(panel: &mut P, mut records: &'a [u8]) -> &'a [u8] {
     loop {
         records = match *records {
             [0x03, byte, ref rest @ ..] => {
@@ -88,25 +95,5 @@ fn move_by<'a, P: Panel>(panel: &mut P, mut records: &'a [u8]) -> &'a [u8] {
             }
             _ => return records,
         }
-    }
-}
-
-/// Why the record in front is refused; where no earlier test finds fault, its body is not allowed.
-#[cold]
-fn refusal_number<P: Panel>(unread: &[u8]) -> u8 {
-    let (body_length, of_this_part) = match unread[0] {
-        0x01 | 0x02 | 0x04 | 0x05 => (0, true),
-        0x03 | 0x06 => (1, true),
-        0x07 => (4, P::HAS_KEYS),
-        0x08 => (1, P::HAS_SWITCHES),
-        0x09 => (0, P::HAS_KEYS),
-        _ => return Answer::KIND_NOT_LISTED,
-    };
-    if !of_this_part {
-        Answer::KIND_NOT_OF_THIS_PART
-    } else if unread.len() <= body_length {
-        Answer::BODY_CUT_SHORT
-    } else {
-        Answer::BODY_NOT_ALLOWED
     }
 }

@@ -1,6 +1,7 @@
 //! Lines of the section `updates`, on which a program is compared with the update here.
 
-use crate::example_updates::{Example, MOST_ROOM, USUAL_CELL};
+use crate::example_key_panels::USUAL_CELL;
+use crate::example_updates::{Example, MOST_ROOM};
 use crate::knowledge::{PT6302, PT6312, PT6315};
 use crate::random::Random;
 

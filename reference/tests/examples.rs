@@ -137,7 +137,7 @@ fn p12_an_unfinished_byte() {
     assert_eq!(answer, Answer::done(5));
     assert_eq!(known_cells(panel.cells.iter()), []);
     let answer = replay(&mut panel, &bytes("02 03 C0 06 08"), 0);
-    assert_eq!(answer, Answer::refused(Answer::BODY_NOT_ALLOWED, 3));
+    assert_eq!(answer, Answer::refused(Answer::BODY_NOT_ALLOWED, 4));
 }
 
 #[test]
@@ -228,4 +228,7 @@ fn the_program_prints_the_three_rams_of_pt6302() {
 fn the_program_prints_only_the_refusal() {
     assert_eq!(printed(0x14, ""), "refused 1 at 0\n");
     assert_eq!(printed(PT6302, "01 07"), "refused 6 at 1\n");
+    assert_eq!(printed(PT6302, "01 06 08"), "refused 8 at 2\n");
+    assert_eq!(printed(PT6312, "01 08 10"), "refused 8 at 2\n");
+    assert_eq!(printed(PT6312, "01 07 12 34 05 01"), "refused 8 at 5\n");
 }

@@ -3,7 +3,7 @@
 use reference::answer::{Answer, LONGEST};
 use reference::character_panel::Pt6302;
 use reference::key_panel::{Address, DataMode, Pt6312, Pt6315};
-use reference::knowledge::{replay_from_nothing, PT6302, PT6312, PT6315};
+use reference::knowledge::{replay_from_nothing, Knowledge, PT6302, PT6312, PT6315};
 use reference::replay::{replay, Panel};
 
 fn answer(part: u8, recording: &[u8]) -> (u8, usize) {
@@ -86,16 +86,101 @@ fn bodies_that_are_not_allowed() {
             let expected = if (1..=7).contains(&bits) {
                 (0, 2)
             } else {
-                (8, 0)
+                (8, 1)
             };
             assert_eq!(answer(part, &[0x06, bits]), expected);
         }
     }
     assert_eq!(answer(PT6312, &[0x08, 15]), (0, 2));
-    assert_eq!(answer(PT6312, &[0x08, 16]), (8, 0));
+    assert_eq!(answer(PT6312, &[0x08, 16]), (8, 1));
     assert_eq!(answer(PT6312, &[0x07, 1, 2, 3, 0]), (0, 5));
-    assert_eq!(answer(PT6312, &[0x07, 1, 2, 3, 4]), (8, 0));
+    assert_eq!(answer(PT6312, &[0x07, 1, 2, 3, 4]), (8, 4));
     assert_eq!(answer(PT6315, &[0x07, 1, 2, 3, 4]), (0, 5));
+}
+
+/// The bytes that a row of hex digits stands for.
+fn bytes(hex: &str) -> Vec<u8> {
+    let words = hex.split_whitespace();
+    words
+        .map(|word| u8::from_str_radix(word, 16).unwrap())
+        .collect()
+}
+
+fn answer_from(start: usize, part: u8, hex: &str) -> (u8, usize) {
+    let mut knowledge = Knowledge::unknown(part).unwrap();
+    let answer = knowledge.replay(&bytes(hex), start);
+    assert_eq!(Some(knowledge), Knowledge::unknown(part), "{hex}");
+    (answer.number, answer.place)
+}
+
+/// At the front of a recording, in its middle and at its end, from its front and from a start place.
+#[test]
+fn an_unfinished_byte_that_is_not_allowed_is_shown_by_its_body() {
+    for part in [PT6302, PT6312, PT6315] {
+        assert_eq!(answer_from(0, part, "06 00 04"), (8, 1));
+        assert_eq!(answer_from(0, part, "01 06 08 04"), (8, 2));
+        assert_eq!(answer_from(0, part, "01 02 03 C0 06 FF"), (8, 5));
+        assert_eq!(answer_from(2, part, "00 FF 06 00 04"), (8, 3));
+        assert_eq!(answer_from(2, part, "00 FF 01 06 08 04"), (8, 4));
+        assert_eq!(answer_from(1, part, "06 01 02 06 80"), (8, 4));
+        assert_eq!(answer_from(1, part, "03 06 00 04"), (8, 2));
+    }
+}
+
+#[test]
+fn switches_that_are_not_allowed_are_shown_by_their_body() {
+    assert_eq!(answer_from(0, PT6312, "08 10 04"), (8, 1));
+    assert_eq!(answer_from(0, PT6312, "01 08 FF 04"), (8, 2));
+    assert_eq!(answer_from(0, PT6312, "01 03 08 08 0F 08 80"), (8, 6));
+    assert_eq!(answer_from(1, PT6312, "0A 08 10 04"), (8, 2));
+    assert_eq!(answer_from(1, PT6312, "0A 04 08 C8 04"), (8, 3));
+    assert_eq!(answer_from(2, PT6312, "06 08 01 04 08 10"), (8, 5));
+    assert_eq!(answer_from(1, PT6312, "06 08 10"), (8, 2));
+}
+
+#[test]
+fn keys_that_are_not_allowed_are_shown_by_their_fourth_byte() {
+    assert_eq!(answer_from(0, PT6312, "07 12 34 05 01 04"), (8, 4));
+    assert_eq!(answer_from(0, PT6312, "01 07 12 34 05 80 04"), (8, 5));
+    assert_eq!(answer_from(0, PT6312, "01 04 07 FF FF FF FF"), (8, 6));
+    assert_eq!(answer_from(0, PT6312, "07 00 00 00 01"), (8, 4));
+    assert_eq!(
+        answer_from(0, PT6312, "07 10 00 FF 00 07 00 00 00 FF"),
+        (8, 9)
+    );
+    assert_eq!(answer_from(3, PT6312, "FF FF FF 07 00 00 00 01 04"), (8, 7));
+    assert_eq!(answer_from(1, PT6312, "00 02 07 12 34 05 80 04"), (8, 6));
+    assert_eq!(answer_from(2, PT6312, "06 00 01 04 07 01 02 03 04"), (8, 8));
+}
+
+/// What the other numbers show is the kind, whatever the body holds.
+#[test]
+fn other_refusals_are_shown_by_the_kind() {
+    for part in [PT6302, PT6312, PT6315] {
+        assert_eq!(answer_from(1, part, "FF 04 0A 00 04"), (5, 2));
+        assert_eq!(answer_from(1, part, "FF 04 06"), (7, 2));
+    }
+    assert_eq!(answer_from(1, PT6302, "FF 04 07 00 00 00 01"), (6, 2));
+    assert_eq!(answer_from(1, PT6302, "FF 08 FF"), (6, 1));
+    assert_eq!(answer_from(1, PT6315, "FF 04 08 10"), (6, 2));
+    assert_eq!(answer_from(1, PT6312, "FF 04 07 FF FF FF"), (7, 2));
+    assert_eq!(answer_from(1, PT6312, "FF 04 08"), (7, 2));
+}
+
+#[test]
+fn the_last_byte_of_the_longest_recording() {
+    for (part, record) in [
+        (PT6302, "06 00"),
+        (PT6312, "06 08"),
+        (PT6312, "08 10"),
+        (PT6312, "07 FF FF FF 01"),
+        (PT6315, "06 FF"),
+    ] {
+        let mut recording = vec![0x04; LONGEST];
+        let record = bytes(record);
+        recording[LONGEST - record.len()..].copy_from_slice(&record);
+        assert_eq!(answer(part, &recording), (8, 65_534));
+    }
 }
 
 #[test]

@@ -75,7 +75,8 @@ fn refusals() {
     assert_printed("02 0C 01 00", "refused 5 at 1");
     assert_printed("02 00 01 02 09", "refused 6 at 2");
     assert_printed("02 00 01 02 03", "refused 7 at 2");
-    assert_printed("12 00 06 08", "refused 8 at 0");
+    assert_printed("12 00 06 08", "refused 8 at 1");
+    assert_printed("12 00 01 07 12 34 05 01", "refused 8 at 5");
     assert_printed("00 00 06 08", "refused 1 at 0");
 }
 

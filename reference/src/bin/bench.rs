@@ -1,7 +1,7 @@
 //! Replays one recording many times in memory, and prints a checksum over all that came out.
 //!
-//! It reads what the proved program reads, and so the size of a packet, too. It has no packets, and replays the whole
-//! recording whatever the size: an accepted recording comes to the same in packets.
+//! It reads what the proved program reads, and so the size of a packet, too. It replays the whole recording whatever
+//! the size: an accepted recording comes to the same in packets.
 
 use reference::checksum::Checksum;
 use reference::knowledge::replay_from_nothing;
