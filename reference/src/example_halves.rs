@@ -6,7 +6,6 @@ use crate::example_lines::Told;
 use crate::knowledge::{Knowledge, PT6302, PT6312, PT6315};
 use crate::{example_character_panels, example_key_panels};
 
-#[derive(Clone)]
 pub struct Halves {
     part: u8,
     keys: Knowledge,
@@ -37,12 +36,8 @@ impl Halves {
         }
     }
 
-    /// The row of the part's half, or those of both.
-    pub fn rows(&self, both: bool) -> Vec<String> {
-        match self.part {
-            PT6302 if !both => vec![known(&self.characters)],
-            PT6312 | PT6315 if !both => vec![known(&self.keys)],
-            _ => vec![known(&self.keys), known(&self.characters)],
-        }
+    /// The rows of both.
+    pub fn rows(&self) -> Vec<String> {
+        vec![known(&self.keys), known(&self.characters)]
     }
 }

@@ -4,6 +4,7 @@
 use crate::character_panel::{self, Lights, Pt6302};
 use crate::key_panel::{Address, DataMode, Display, KeyPanel, Position, Stepping};
 use crate::knowledge::Knowledge;
+use crate::show::in_hex;
 
 /// The switches that a PT6315 is said to have are no fact of it, and are not shown.
 pub fn known(knowledge: &Knowledge) -> String {
@@ -74,10 +75,6 @@ fn runs(cells: impl Iterator<Item = Option<u8>>) -> String {
         first = last + 1;
     }
     text
-}
-
-fn in_hex(fact: Option<u8>) -> String {
-    fact.map_or("??".into(), |value| format!("{value:02X}"))
 }
 
 fn address_in_words(address: Address) -> String {

@@ -40,7 +40,7 @@ impl Line {
                 of_bytes.push(piece);
             }
         }
-        read.bytes = bytes_in(of_bytes);
+        read.bytes = bytes_of(of_bytes);
         read
     }
 }
@@ -157,8 +157,13 @@ fn refusal_in(text: &str) -> Answer {
     Answer::refused(byte_in(number), number_in(place))
 }
 
+/// The bytes that a row of pieces stands for.
+pub fn bytes_in(row: &str) -> Vec<u8> {
+    bytes_of(row.split_whitespace())
+}
+
 /// What stands between `(` and `)*FFFE` is repeated until there are FFFEH bytes, if need be not to its end.
-pub fn bytes_in<'a>(pieces: impl IntoIterator<Item = &'a str>) -> Vec<u8> {
+fn bytes_of<'a>(pieces: impl IntoIterator<Item = &'a str>) -> Vec<u8> {
     let (mut bytes, mut opened) = (Vec::new(), 0);
     for piece in pieces {
         if piece == "(" {
@@ -172,15 +177,6 @@ pub fn bytes_in<'a>(pieces: impl IntoIterator<Item = &'a str>) -> Vec<u8> {
         }
     }
     bytes
-}
-
-/// A refusal that is none, as one behind a `$` may be, reads as done.
-pub fn answer_in_words(answer: Answer) -> String {
-    let Answer { number, place } = answer;
-    match number {
-        Answer::DONE => format!("done at {place}"),
-        _ => format!("refused {number} at {place}"),
-    }
 }
 
 /// Each byte behind a space.

@@ -7,9 +7,10 @@
 
 use crate::example_halves::Halves;
 use crate::example_known::known;
-use crate::example_lines::{answer_in_words, bytes_in, bytes_in_words, Line};
+use crate::example_lines::{bytes_in, bytes_in_words, Line};
 use crate::knowledge::PT6302;
 use crate::packets::{Kept, Packets};
+use crate::show::answer_in_words;
 use crate::{example_character_panels, example_key_panels};
 
 /// Of a line's bytes no more are taken; a record that is cut off has no more.
@@ -42,7 +43,7 @@ impl Example {
     pub fn written(&self) -> Vec<String> {
         let mut rows = match &self.packets.knowledge {
             Some(knowledge) => vec![known(knowledge)],
-            None => self.told.rows(true),
+            None => self.told.rows(),
         };
         rows.push(kept_row(&self.packets.kept));
         let closing = answer_in_words(self.packets.close());
@@ -52,9 +53,8 @@ impl Example {
 
     /// The rows that must stand behind the line of a packet, which is taken.
     pub fn written_behind(&mut self, line: &str) -> Vec<String> {
-        let mut pieces = line.split(' ');
-        assert_eq!(pieces.next(), Some("/"), "not a packet: {line}");
-        let answer = self.packets.take(&bytes_in(pieces));
+        let packet = line.strip_prefix('/').expect("a packet begins with /");
+        let answer = self.packets.take(&bytes_in(packet));
         let mut rows = vec![format!("    packet {}", answer_in_words(answer))];
         rows.extend(self.written());
         rows

@@ -6,7 +6,9 @@
 
 use crate::answer::Answer;
 use crate::example_halves::Halves;
-use crate::example_lines::{answer_in_words, bytes_in_words, Line, Saying};
+use crate::example_known::known;
+use crate::example_lines::{bytes_in_words, Line, Saying};
+use crate::show::answer_in_words;
 use crate::tail::tail_of;
 use crate::{example_character_panels, example_key_panels};
 
@@ -22,7 +24,10 @@ pub fn written(line: &str) -> Vec<String> {
         None => Answer::refused(Answer::NO_SUCH_PART, 0),
     };
     let mut rows = vec![format!("    replay {}", answer_in_words(answer))];
-    rows.extend(halves.rows(!line.words.is_empty()));
+    match halves.of_part() {
+        Some(knowledge) if line.words.is_empty() => rows.push(known(knowledge)),
+        _ => rows.extend(halves.rows()),
+    }
     rows.push(tail_row(&line));
     rows
 }

@@ -8,7 +8,7 @@ use crate::answer::Answer;
 use crate::example_character_panels::{everything, panel, TEXT};
 use crate::example_lines::{Line, Saying, Told};
 use crate::knowledge::{Knowledge, PT6302};
-use crate::show::field_in_words;
+use crate::show::{answer_in_words, field_in_words};
 use crate::temperature::{temperature, Field, Temperature};
 
 pub struct Example {
@@ -65,7 +65,7 @@ impl Example {
                 format!("{reads}, half degrees {halves}, degrees {words}")
             }
             _ if answer.number == Answer::DONE => format!("    {words}"),
-            _ => format!("    {words}, refused {} at {}", answer.number, answer.place),
+            _ => format!("    {words}, {}", answer_in_words(answer)),
         }
     }
 }

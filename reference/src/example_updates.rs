@@ -6,8 +6,9 @@
 
 use crate::answer::Answer;
 use crate::example_key_panels::{everything, panel, tell, MOST_CELLS, USUAL_CELL};
-use crate::example_lines::{answer_in_words, bytes_in_words, Line, Told};
+use crate::example_lines::{bytes_in_words, Line, Told};
 use crate::knowledge::{Knowledge, PT6312, PT6315};
+use crate::show::answer_in_words;
 use crate::update::{update, Update};
 
 /// The length of the output where a line has none; no line may ask for more.

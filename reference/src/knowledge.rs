@@ -16,6 +16,7 @@ pub enum Knowledge {
 pub const PT6302: u8 = 0x02;
 pub const PT6312: u8 = 0x12;
 pub const PT6315: u8 = 0x15;
+pub const PARTS: [u8; 3] = [PT6302, PT6312, PT6315];
 
 impl Knowledge {
     /// Nothing is known of the part, or the byte names none.

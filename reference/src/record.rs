@@ -3,11 +3,16 @@
 use crate::answer::Answer;
 use crate::replay::Panel;
 
+/// Of an unfinished byte, whose kind is 06, at least one bit has come, but not all eight.
+pub const FEWEST_BITS: u8 = 1;
+pub const MOST_BITS: u8 = 7;
+/// Of switches, whose kind is 08, there are four, one to a bit.
+pub const HIGHEST_SWITCHES: u8 = 15;
+
 /// Why a record is refused, and which of its bytes is shown, counted from the kind.
-#[derive(Clone, Copy, Debug, PartialEq, Eq)]
 pub struct Fault {
     pub number: u8,
-    pub byte: usize,
+    byte: usize,
 }
 
 impl Fault {
@@ -54,9 +59,9 @@ pub fn record_in_front<P: Panel>(bytes: &[u8]) -> Result<usize, Fault> {
 /// Of a whole record.
 fn is_allowed<P: Panel>(record: &[u8]) -> bool {
     match *record {
-        [0x06, bits] => (1..=7).contains(&bits),
+        [0x06, bits] => (FEWEST_BITS..=MOST_BITS).contains(&bits),
         [0x07, a, b, c, d] => P::keys_allowed([a, b, c, d]),
-        [0x08, switches] => switches <= 15,
+        [0x08, switches] => switches <= HIGHEST_SWITCHES,
         _ => true,
     }
 }

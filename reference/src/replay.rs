@@ -1,7 +1,7 @@
 //! The replay: the tests that come first, then the records from the front.
 
 use crate::answer::{Answer, LONGEST};
-use crate::record::record_in_front;
+use crate::record::{record_in_front, FEWEST_BITS, HIGHEST_SWITCHES, MOST_BITS};
 
 /// Knowledge of one part, with the moves of that part.
 pub trait Panel: Copy {
@@ -73,7 +73,7 @@ pub(crate) fn move_by<'a, P: Panel>(panel: &mut P, mut records: &'a [u8]) -> &'a
                 panel.strobe_falls();
                 rest
             }
-            [0x04, ref rest @ ..] | [0x06, 1..=7, ref rest @ ..] => {
+            [0x04, ref rest @ ..] | [0x06, FEWEST_BITS..=MOST_BITS, ref rest @ ..] => {
                 panel.strobe_rises();
                 rest
             }
@@ -85,7 +85,7 @@ pub(crate) fn move_by<'a, P: Panel>(panel: &mut P, mut records: &'a [u8]) -> &'a
                 panel.keys_latched([a, b, c, d]);
                 rest
             }
-            [0x08, switches @ 0..=15, ref rest @ ..] if P::HAS_SWITCHES => {
+            [0x08, switches @ 0..=HIGHEST_SWITCHES, ref rest @ ..] if P::HAS_SWITCHES => {
                 panel.switches_latched(switches);
                 rest
             }

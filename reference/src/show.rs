@@ -4,15 +4,13 @@ use crate::answer::Answer;
 use crate::character_panel::COLUMNS;
 use crate::knowledge::Knowledge;
 use crate::temperature::{Field, Temperature};
-use std::fmt::Write;
 
 /// A refusal is a single line; what is known is shown only behind a replay that was done.
 pub fn report(answer: Answer, knowledge: Option<&Knowledge>) -> String {
+    let line = answer_in_words(answer) + "\n";
     match knowledge {
-        Some(knowledge) if answer.number == Answer::DONE => {
-            format!("done at {}\n{}", answer.place, memory(knowledge))
-        }
-        _ => refusal(answer),
+        Some(knowledge) if answer.number == Answer::DONE => line + &memory(knowledge),
+        _ => line,
     }
 }
 
@@ -20,12 +18,17 @@ pub fn report(answer: Answer, knowledge: Option<&Knowledge>) -> String {
 pub fn temperature_line(temperature: &Temperature) -> String {
     match temperature.answer.number {
         Answer::DONE => field_in_words(temperature.field) + "\n",
-        _ => refusal(temperature.answer),
+        _ => answer_in_words(temperature.answer) + "\n",
     }
 }
 
-fn refusal(answer: Answer) -> String {
-    format!("refused {} at {}\n", answer.number, answer.place)
+/// A refusal that is none, as a line of `panel_examples` may have one, reads as done.
+pub fn answer_in_words(answer: Answer) -> String {
+    let Answer { number, place } = answer;
+    match number {
+        Answer::DONE => format!("done at {place}"),
+        _ => format!("refused {number} at {place}"),
+    }
 }
 
 /// A reading in degrees with one decimal, which is all that half degrees need.
@@ -66,14 +69,12 @@ fn by_digit(cells: Vec<Option<u8>>, cells_a_digit: usize) -> String {
 }
 
 fn line(name: &str, values: impl Iterator<Item = Option<u8>>) -> String {
-    let mut text = format!("{name}:");
-    for value in values {
-        match value {
-            Some(value) => {
-                write!(text, " {value:02X}").expect("a string takes all that is written")
-            }
-            None => text += " ??",
-        }
-    }
-    text + "\n"
+    let values: String = values
+        .map(|value| " ".to_string() + &in_hex(value))
+        .collect();
+    format!("{name}:{values}\n")
+}
+
+pub fn in_hex(fact: Option<u8>) -> String {
+    fact.map_or("??".into(), |value| format!("{value:02X}"))
 }

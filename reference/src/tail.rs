@@ -11,7 +11,7 @@ use std::ops::Range;
 const GAP: u8 = 0x05;
 
 /// The answer, and the tail's places in the recording; a refused tail is the empty one at the front.
-#[derive(Clone, Debug, PartialEq, Eq)]
+#[derive(Debug, PartialEq, Eq)]
 pub struct Tail {
     pub answer: Answer,
     pub places: Range<usize>,

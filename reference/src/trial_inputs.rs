@@ -2,11 +2,9 @@
 
 use crate::answer::LONGEST;
 use crate::damage::{bad_record, byte_changed, cut_short};
-use crate::knowledge::{PT6302, PT6312, PT6315};
+use crate::knowledge::{PARTS, PT6302, PT6312, PT6315};
 use crate::random::Random;
 use crate::trial_recordings::any_recording;
-
-const PARTS: [u8; 3] = [PT6302, PT6312, PT6315];
 
 /// The input with this number, which depends on nothing but the seed and the number.
 /// The first few are the same for every seed but for their contents, so that no edge is left to chance.

@@ -2,6 +2,7 @@
 
 use reference::answer::Answer;
 use reference::character_panel;
+use reference::example_lines::bytes_in;
 use reference::key_panel::{Address, DataMode, Display, Position, Pt6312, Pt6315, Stepping};
 use reference::knowledge::{replay_from_nothing, Knowledge, PT6302, PT6312, PT6315};
 use reference::painting::{paint_character_panel, paint_key_panel, CharacterPicture, KeyPicture};
@@ -9,20 +10,12 @@ use reference::recording::Recording;
 use reference::replay::{replay, Panel};
 use reference::show::report;
 
-/// The bytes that a row of hex digits stands for.
-fn bytes(hex: &str) -> Vec<u8> {
-    let words = hex.split_whitespace();
-    words
-        .map(|word| u8::from_str_radix(word, 16).unwrap())
-        .collect()
-}
-
 /// The knowledge behind power and some strobes, each given by its bytes.
 fn after_power<P: Panel>(strobes: &[&str]) -> P {
     let mut recording = Recording::up_to(1_000);
     recording.power();
     for strobe in strobes {
-        let data = bytes(strobe);
+        let data = bytes_in(strobe);
         recording.strobe(data[0], &data[1..]);
     }
     let mut panel = P::UNKNOWN;
@@ -41,7 +34,7 @@ fn known_cells(cells: impl Iterator<Item = Option<u8>>) -> Vec<(usize, u8)> {
 #[test]
 fn p1_a_byte_behind_an_address_is_known() {
     let mut panel = Pt6312::UNKNOWN;
-    let answer = replay(&mut panel, &bytes("01 02 03 C0 03 5A 04"), 0);
+    let answer = replay(&mut panel, &bytes_in("01 02 03 C0 03 5A 04"), 0);
     assert_eq!(answer, Answer::done(7));
     assert_eq!(known_cells(panel.cells.iter()), [(0, 0x5A)]);
     assert_eq!(panel.address, Some(Address::Cell(1)));
@@ -102,7 +95,7 @@ fn p8_the_modes_of_pt6315() {
 #[test]
 fn p9_a_gap_leaves_the_data_mode_unknown() {
     let mut panel = Pt6312::UNKNOWN;
-    replay(&mut panel, &bytes("05 02 03 C5 03 33 04"), 0);
+    replay(&mut panel, &bytes_in("05 02 03 C5 03 33 04"), 0);
     assert_eq!(known_cells(panel.cells.iter()), []);
     assert_eq!(panel.address, None);
 }
@@ -133,17 +126,17 @@ fn p11_the_address_of_pt6302_comes_round() {
 #[test]
 fn p12_an_unfinished_byte() {
     let mut panel = Pt6312::UNKNOWN;
-    let answer = replay(&mut panel, &bytes("02 03 C0 06 03"), 0);
+    let answer = replay(&mut panel, &bytes_in("02 03 C0 06 03"), 0);
     assert_eq!(answer, Answer::done(5));
     assert_eq!(known_cells(panel.cells.iter()), []);
-    let answer = replay(&mut panel, &bytes("02 03 C0 06 08"), 0);
+    let answer = replay(&mut panel, &bytes_in("02 03 C0 06 08"), 0);
     assert_eq!(answer, Answer::refused(Answer::BODY_NOT_ALLOWED, 4));
 }
 
 #[test]
 fn p13_bytes_sent_are_counted() {
     let mut panel = Pt6312::UNKNOWN;
-    replay(&mut panel, &bytes("07 12 34 05 00 02 03 42"), 0);
+    replay(&mut panel, &bytes_in("07 12 34 05 00 02 03 42"), 0);
     assert_eq!(panel.keys, [Some(0x12), Some(0x34), Some(0x05)]);
     for count in [0, 1, 2, 3, 4, 4] {
         assert_eq!(panel.read_count, Some(count));
@@ -162,9 +155,9 @@ fn p14_a_painting() {
         on: false,
     };
     paint_key_panel(&mut recording, &picture);
-    let mut expected = bytes("02 03 07 04 02 03 40 04 02 03 C0");
+    let mut expected = bytes_in("02 03 07 04 02 03 40 04 02 03 C0");
     expected.extend([0x03, 0x00].repeat(22));
-    expected.extend(bytes("04 02 03 41 03 0F 04 02 03 80 04"));
+    expected.extend(bytes_in("04 02 03 41 03 0F 04 02 03 80 04"));
     assert_eq!(recording.bytes(), expected);
 }
 
@@ -195,7 +188,7 @@ fn a_painting_of_pt6302_is_as_long_as_the_paper_says() {
 }
 
 fn printed(part: u8, recording: &str) -> String {
-    let (answer, knowledge) = replay_from_nothing(part, &bytes(recording));
+    let (answer, knowledge) = replay_from_nothing(part, &bytes_in(recording));
     report(answer, knowledge.as_ref())
 }
 

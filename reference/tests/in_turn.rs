@@ -1,6 +1,6 @@
 //! A recording does what its records do one after the other, wherever it is taken up.
 
-use reference::knowledge::{Knowledge, PT6302, PT6312, PT6315};
+use reference::knowledge::{Knowledge, PARTS};
 use reference::random::Random;
 use reference::trial_recordings::any_recording;
 
@@ -16,7 +16,7 @@ fn record_length(kind: u8) -> usize {
 fn a_recording_is_its_records_in_turn() {
     let mut random = Random::new(2);
     for _ in 0..3_000 {
-        let part = random.pick(&[PT6302, PT6312, PT6315]);
+        let part = random.pick(&PARTS);
         let length = random.below(300);
         let recording = any_recording(part, length, &mut random);
         let mut at_once = Knowledge::unknown(part).unwrap();

@@ -1,22 +1,13 @@
 //! Packets (M-100), with answers worked out by hand from the paper, and beside replay.
 
 use reference::answer::{Answer, LONGEST};
+use reference::example_lines::bytes_in;
 use reference::key_panel::{Position, Pt6312};
-use reference::knowledge::{Knowledge, PT6302, PT6312, PT6315};
+use reference::knowledge::{Knowledge, PARTS, PT6302, PT6312, PT6315};
 use reference::packets::{Kept, Packets};
 use reference::random::Random;
 use reference::replay::Panel;
 use reference::trial_inputs::trial_input;
-
-const PARTS: [u8; 3] = [PT6302, PT6312, PT6315];
-
-/// The bytes that a row of hex digits stands for.
-fn bytes(hex: &str) -> Vec<u8> {
-    let words = hex.split_whitespace();
-    words
-        .map(|word| u8::from_str_radix(word, 16).unwrap())
-        .collect()
-}
 
 fn opened(part: u8) -> Packets {
     Packets::opened(Knowledge::unknown(part))
@@ -25,14 +16,14 @@ fn opened(part: u8) -> Packets {
 /// From unfinished bytes and a total, knowing nothing.
 fn state(part: u8, unfinished: &str, total: u32) -> Packets {
     let mut packets = opened(part);
-    packets.kept.unfinished = bytes(unfinished);
+    packets.kept.unfinished = bytes_in(unfinished);
     packets.kept.total = total;
     packets
 }
 
 /// The answer to a packet and to closing behind it, each a number and a place.
 fn take(packets: &mut Packets, packet: &str) -> [(u8, usize); 2] {
-    let answer = packets.take(&bytes(packet));
+    let answer = packets.take(&bytes_in(packet));
     let closing = packets.close();
     [answer, closing].map(|answer| (answer.number, answer.place))
 }
@@ -68,7 +59,7 @@ fn a_refusal_stands() {
     };
     assert_eq!(packets.kept, kept);
     let mut before = Knowledge::unknown(PT6312).unwrap();
-    before.replay(&bytes("01 02 03 C0 04"), 0);
+    before.replay(&bytes_in("01 02 03 C0 04"), 0);
     assert_eq!(packets.knowledge, Some(before));
     for packet in ["", "02", "06 00"] {
         assert_eq!(take(&mut packets, packet), [(5, 5), (5, 5)]);

@@ -2,8 +2,9 @@
 
 use reference::answer::{Answer, LONGEST};
 use reference::character_panel::Pt6302;
+use reference::example_lines::bytes_in;
 use reference::key_panel::{Address, DataMode, Pt6312, Pt6315};
-use reference::knowledge::{replay_from_nothing, Knowledge, PT6302, PT6312, PT6315};
+use reference::knowledge::{replay_from_nothing, Knowledge, PARTS, PT6302, PT6312, PT6315};
 use reference::replay::{replay, Panel};
 
 fn answer(part: u8, recording: &[u8]) -> (u8, usize) {
@@ -21,7 +22,7 @@ fn the_part_is_looked_at_before_the_length() {
 
 #[test]
 fn the_longest_recording_is_taken_and_no_longer_one() {
-    for part in [PT6302, PT6312, PT6315] {
+    for part in PARTS {
         assert_eq!(answer(part, &[0x04; LONGEST]), (0, LONGEST));
         assert_eq!(answer(part, &[0x04; LONGEST + 1]), (4, 0));
         assert_eq!(answer(part, &[0x00; LONGEST + 1]), (4, 0));
@@ -49,7 +50,7 @@ fn places_count_from_the_front_of_the_whole_recording() {
 
 #[test]
 fn kinds_that_are_not_listed() {
-    for part in [PT6302, PT6312, PT6315] {
+    for part in PARTS {
         for kind in [0x00, 0x0A, 0x80, 0xFF] {
             assert_eq!(answer(part, &[0x01, kind]), (5, 1));
         }
@@ -68,7 +69,7 @@ fn kinds_of_another_part_are_refused_before_their_bodies() {
 
 #[test]
 fn bodies_cut_short() {
-    for part in [PT6302, PT6312, PT6315] {
+    for part in PARTS {
         assert_eq!(answer(part, &[0x01, 0x03]), (7, 1));
         assert_eq!(answer(part, &[0x01, 0x06]), (7, 1));
     }
@@ -81,7 +82,7 @@ fn bodies_cut_short() {
 
 #[test]
 fn bodies_that_are_not_allowed() {
-    for part in [PT6302, PT6312, PT6315] {
+    for part in PARTS {
         for bits in 0..=255 {
             let expected = if (1..=7).contains(&bits) {
                 (0, 2)
@@ -98,17 +99,9 @@ fn bodies_that_are_not_allowed() {
     assert_eq!(answer(PT6315, &[0x07, 1, 2, 3, 4]), (0, 5));
 }
 
-/// The bytes that a row of hex digits stands for.
-fn bytes(hex: &str) -> Vec<u8> {
-    let words = hex.split_whitespace();
-    words
-        .map(|word| u8::from_str_radix(word, 16).unwrap())
-        .collect()
-}
-
 fn answer_from(start: usize, part: u8, hex: &str) -> (u8, usize) {
     let mut knowledge = Knowledge::unknown(part).unwrap();
-    let answer = knowledge.replay(&bytes(hex), start);
+    let answer = knowledge.replay(&bytes_in(hex), start);
     assert_eq!(Some(knowledge), Knowledge::unknown(part), "{hex}");
     (answer.number, answer.place)
 }
@@ -116,7 +109,7 @@ fn answer_from(start: usize, part: u8, hex: &str) -> (u8, usize) {
 /// At the front of a recording, in its middle and at its end, from its front and from a start place.
 #[test]
 fn an_unfinished_byte_that_is_not_allowed_is_shown_by_its_body() {
-    for part in [PT6302, PT6312, PT6315] {
+    for part in PARTS {
         assert_eq!(answer_from(0, part, "06 00 04"), (8, 1));
         assert_eq!(answer_from(0, part, "01 06 08 04"), (8, 2));
         assert_eq!(answer_from(0, part, "01 02 03 C0 06 FF"), (8, 5));
@@ -156,7 +149,7 @@ fn keys_that_are_not_allowed_are_shown_by_their_fourth_byte() {
 /// What the other numbers show is the kind, whatever the body holds.
 #[test]
 fn other_refusals_are_shown_by_the_kind() {
-    for part in [PT6302, PT6312, PT6315] {
+    for part in PARTS {
         assert_eq!(answer_from(1, part, "FF 04 0A 00 04"), (5, 2));
         assert_eq!(answer_from(1, part, "FF 04 06"), (7, 2));
     }
@@ -177,7 +170,7 @@ fn the_last_byte_of_the_longest_recording() {
         (PT6315, "06 FF"),
     ] {
         let mut recording = vec![0x04; LONGEST];
-        let record = bytes(record);
+        let record = bytes_in(record);
         recording[LONGEST - record.len()..].copy_from_slice(&record);
         assert_eq!(answer(part, &recording), (8, 65_534));
     }

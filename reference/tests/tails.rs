@@ -1,27 +1,18 @@
 //! The tail finder, with tails worked out by hand from the paper, and beside replay.
 
 use reference::answer::{Answer, LONGEST};
-use reference::knowledge::{Knowledge, PT6302, PT6312, PT6315};
+use reference::example_lines::bytes_in;
+use reference::knowledge::{Knowledge, PARTS, PT6302, PT6312, PT6315};
 use reference::tail::{tail_of, Tail};
 use reference::trial_inputs::trial_input;
 
-const PARTS: [u8; 3] = [PT6302, PT6312, PT6315];
-
-/// The bytes that a row of hex digits stands for.
-fn bytes(hex: &str) -> Vec<u8> {
-    let words = hex.split_whitespace();
-    words
-        .map(|word| u8::from_str_radix(word, 16).unwrap())
-        .collect()
-}
-
 fn assert_tail(part: u8, hex: &str, start: usize) {
-    let length = bytes(hex).len();
+    let length = bytes_in(hex).len();
     let wanted = Tail {
         answer: Answer::done(length),
         places: start..length,
     };
-    assert_eq!(tail_of(part, &bytes(hex)), wanted, "{hex}");
+    assert_eq!(tail_of(part, &bytes_in(hex)), wanted, "{hex}");
 }
 
 /// The empty part at the front.
@@ -72,18 +63,18 @@ fn the_tests_come_in_order() {
 #[test]
 fn records_are_refused_as_by_replay() {
     for part in PARTS {
-        assert_refused(part, &bytes("05 01 00 05"), 5, 2);
-        assert_refused(part, &bytes("05 01 03"), 7, 2);
-        assert_refused(part, &bytes("06 00 05 04"), 8, 1);
-        assert_refused(part, &bytes("05 01 06 08 05"), 8, 3);
-        assert_refused(part, &bytes("05 01 06 FF"), 8, 3);
+        assert_refused(part, &bytes_in("05 01 00 05"), 5, 2);
+        assert_refused(part, &bytes_in("05 01 03"), 7, 2);
+        assert_refused(part, &bytes_in("06 00 05 04"), 8, 1);
+        assert_refused(part, &bytes_in("05 01 06 08 05"), 8, 3);
+        assert_refused(part, &bytes_in("05 01 06 FF"), 8, 3);
     }
-    assert_refused(PT6302, &bytes("05 07 12 34 05 01"), 6, 1);
-    assert_refused(PT6315, &bytes("05 08 10"), 6, 1);
-    assert_refused(PT6312, &bytes("08 10 05"), 8, 1);
-    assert_refused(PT6312, &bytes("05 02 08 FF"), 8, 3);
-    assert_refused(PT6312, &bytes("07 05 05 05 05"), 8, 4);
-    assert_refused(PT6312, &bytes("05 02 07 00 00 00 01 05"), 8, 6);
+    assert_refused(PT6302, &bytes_in("05 07 12 34 05 01"), 6, 1);
+    assert_refused(PT6315, &bytes_in("05 08 10"), 6, 1);
+    assert_refused(PT6312, &bytes_in("08 10 05"), 8, 1);
+    assert_refused(PT6312, &bytes_in("05 02 08 FF"), 8, 3);
+    assert_refused(PT6312, &bytes_in("07 05 05 05 05"), 8, 4);
+    assert_refused(PT6312, &bytes_in("05 02 07 00 00 00 01 05"), 8, 6);
 }
 
 /// Whatever the recording, the answer is replay's, and replay needs no more than the tail if there was a gap.

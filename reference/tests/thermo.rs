@@ -1,16 +1,13 @@
 //! What the program `thermo` prints, for inputs worked out by hand from the papers.
 
 use reference::answer::LONGEST;
+use reference::example_lines::bytes_in;
 use reference::show::temperature_line;
 use reference::thermo_input::temperature_in;
 
 fn assert_printed(hex: &str, line: &str) {
-    let words = hex.split_whitespace();
-    let input: Vec<u8> = words
-        .map(|word| u8::from_str_radix(word, 16).unwrap())
-        .collect();
     assert_eq!(
-        temperature_line(&temperature_in(&input)),
+        temperature_line(&temperature_in(&bytes_in(hex))),
         format!("{line}\n"),
         "{hex}"
     );

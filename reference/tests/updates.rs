@@ -2,20 +2,13 @@
 
 use reference::cells::Cells;
 use reference::character_panel::Pt6302;
+use reference::example_lines::bytes_in;
 use reference::key_panel::{Address, DataMode, Position, Pt6312, Pt6315, Stepping};
 use reference::knowledge::Knowledge;
 use reference::replay::Panel;
 use reference::update::{update, Update};
 
 const PLENTY: usize = 1_000;
-
-/// The bytes that a row of hex digits stands for.
-fn bytes(hex: &str) -> Vec<u8> {
-    let words = hex.split_whitespace();
-    words
-        .map(|word| u8::from_str_radix(word, 16).unwrap())
-        .collect()
-}
 
 /// Every cell is known as 6E, and the data setting as write display and increment; nothing else is known.
 fn pt6312() -> Pt6312 {
@@ -54,7 +47,7 @@ fn update_6315(panel: Pt6315, but: &[(usize, u8)], room: usize) -> Update {
 }
 
 fn assert_sent(update: &Update, count: usize, hex: &str) {
-    assert_eq!(update.stream, bytes(hex));
+    assert_eq!(update.stream, bytes_in(hex));
     assert_eq!(
         (update.answer.number, update.answer.place),
         (0, update.stream.len())
@@ -167,19 +160,19 @@ fn all_cells_together_are_one_run_from_00h() {
     let every: Vec<(usize, u8)> = (0..36).map(|at| (at, at as u8)).collect();
     let sent = update_6312(pt6312(), &every[..22], PLENTY);
     assert_eq!(sizes(&sent), (0, 48, 23, 48));
-    assert_eq!(sent.stream[..7], bytes("02 03 C0 03 00 03 01"));
-    assert_eq!(sent.stream[43..], bytes("03 14 03 15 04")[..]);
+    assert_eq!(sent.stream[..7], bytes_in("02 03 C0 03 00 03 01"));
+    assert_eq!(sent.stream[43..], bytes_in("03 14 03 15 04")[..]);
     let sent = update_6315(pt6315(), &every, PLENTY);
     assert_eq!(sizes(&sent), (0, 76, 37, 76));
-    assert_eq!(sent.stream[..7], bytes("02 03 C0 03 00 03 01"));
-    assert_eq!(sent.stream[71..], bytes("03 22 03 23 04")[..]);
+    assert_eq!(sent.stream[..7], bytes_in("02 03 C0 03 00 03 01"));
+    assert_eq!(sent.stream[71..], bytes_in("03 22 03 23 04")[..]);
 }
 
 #[test]
 fn knowing_nothing_all_cells_are_sent_behind_the_setting() {
     let sent = update_6312(Pt6312::UNKNOWN, &[], PLENTY);
     assert_eq!(sizes(&sent), (0, 52, 24, 52));
-    assert_eq!(sent.stream[..9], bytes("02 03 40 04 02 03 C0 03 6E"));
+    assert_eq!(sent.stream[..9], bytes_in("02 03 40 04 02 03 C0 03 6E"));
     let sent = update_6315(Pt6315::UNKNOWN, &[], PLENTY);
     assert_eq!(sizes(&sent), (0, 80, 38, 80));
 }
@@ -198,8 +191,8 @@ fn all_cells_but_one() {
     ] {
         let sent = update_6312(pt6312(), &all_but(stays), PLENTY);
         assert_eq!(sizes(&sent), (0, 46, 22, 46));
-        assert_eq!(sent.stream[..7], bytes(head));
-        assert_eq!(sent.stream[41..], bytes(tail)[..]);
+        assert_eq!(sent.stream[..7], bytes_in(head));
+        assert_eq!(sent.stream[41..], bytes_in(tail)[..]);
     }
 }
 
@@ -212,16 +205,16 @@ fn alternating_cells_make_the_longest_streams() {
     assert_eq!(sizes(&sent), (0, 70, 23, 70));
     assert_eq!(
         sent.stream[..16],
-        bytes("02 03 40 04 02 03 C0 03 00 04 02 03 C2 03 02 04")
+        bytes_in("02 03 40 04 02 03 C0 03 00 04 02 03 C2 03 02 04")
     );
-    assert_eq!(sent.stream[64..], bytes("02 03 D4 03 14 04")[..]);
+    assert_eq!(sent.stream[64..], bytes_in("02 03 D4 03 14 04")[..]);
     assert_refused(&update_6312(panel, &even[..11], 69), 10);
 
     let mut panel = pt6315();
     panel.stepping = None;
     let sent = update_6315(panel, &even, 112);
     assert_eq!(sizes(&sent), (0, 112, 37, 112));
-    assert_eq!(sent.stream[106..], bytes("02 03 E2 03 22 04")[..]);
+    assert_eq!(sent.stream[106..], bytes_in("02 03 E2 03 22 04")[..]);
     assert_refused(&update_6315(panel, &even, 111), 10);
 
     assert_eq!(sizes(&update_6315(pt6315(), &even, 108)), (0, 108, 36, 108));

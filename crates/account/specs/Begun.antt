@@ -8,16 +8,17 @@ use mathlib.Core.List.{List, [], _∷_, _++_}
 use mathlib.Core.Logic.{⊎-elim, _⊎_, inl, inr}
 use lib.ListN.{length, drop, take, getD, length-append}
 use lib.Seq.{length-take-le, drop-length}
-use borrow.Author.Tests.{lt-ltb}
 use Rattle.rules.specs.Choice.{whether}
 use Rattle.terms.specs.declared.Event.{Event}
 use Rattle.terms.specs.declared.Place.{Place}
 use Rattle.terms.specs.declared.Part.{Part}
 use Rattle.recording.specs.Record.{listed, belongs, bodyOf, allowed, ofBody, eventOf, front, placeWithin}
 use Rattle.recording.specs.Walk.{walked, events, endOf}
+use Rattle.recording.specs.Laws.{at-body}
 use Rattle.recording.specs.Append.{shifted}
 use Rattle.recording.specs.Cut.{Open, walked-next, walked-stops}
-use Rattle.recording.specs.Start.{CutOff, none, some, Starts, starts, started}
+use Rattle.recording.specs.Start.{CutOff, none, some, started}
+use Rattle.recording.specs.Tests.{Starts, starts}
 use Rattle.recording.specs.declared.ending.Ending.the-variants.{Done, Stops}
 use Rattle.recording.specs.declared.read.Read.the-variants.{Is, Refused}
 use Rattle.recording.specs.declared.read.Refusal.{Refusal}
@@ -41,7 +42,7 @@ begun p u total cut more counted = record { starts = by u cut more; more = more;
 -- Bytes that are just one record long are a record, or refused by 8.
 module _ (p : Part) (t : List ℕ) (kind : listed (getD t 0 0) ≡ true) (own : belongs p (getD t 0 0) ≡ true) (long : length t ≡ wholeOf t) where
   whole-body : front p t ≡ ofBody p (getD t 0 0) t
-  whole-body = rw (kind, own, lt-ltb (bodyOf (getD t 0 0)) (length t) (omega (arith, long))) refl
+  whole-body = sym (at-body p t 0 (ofBody p (getD t 0 0) t) kind own (omega (arith, long)) refl)
 
   one-record : (endOf (walked p t) ≡ Done) ⊎ (endOf (walked p t) ≡ Stops Forbidden (record { 0 = placeWithin Forbidden (getD t 0 0) }))
   one-record = by (allowed p (getD t 0 0) (getD t 1 0) (getD t 4 0)) refl

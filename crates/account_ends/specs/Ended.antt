@@ -36,8 +36,8 @@ pub record Halts (n at total : ℕ) (r : Ended) : Type 0 where
   pub stands : r .kept ≡ Stands.Refused (r .answer)
 
 -- By how the records of the row l end, whose first byte stands at the place `first`; `before` and `after` are the totals
--- before and after the packet. Where a walk over the row stops is a place in the row, by `recording/Record.placeWithin`, also
--- if the record's first bytes came in an earlier packet.
+-- before and after the packet. What a refusal points at, by `recording/Record.placeWithin`, is a place in the row, also if the
+-- record's first bytes came in an earlier packet.
 abbrev pub ByEnd : Ending → (first before after : ℕ) → List ℕ → Ended → Type 0
 ByEnd Done first before after l r = Goes after [] r
 ByEnd (Stops Unlisted at) first before after l r = Halts 5 (first + at .0) before r

@@ -9,9 +9,9 @@ use lib.Seq.{drop-drop}
 use Rattle.terms.specs.declared.Place.{Place}
 use Rattle.recording.specs.Append.{shifted}
 use Rattle.recording.specs.Cut.{Open, leftBy}
-use Rattle.recording.specs.Points.{cut-front}
-use Rattle.recording.specs.Start.{starts, body-four}
-use Rattle.recording.specs.Steps.{stops-within}
+use Rattle.recording.specs.Start.{body-four}
+use Rattle.recording.specs.Tests.{starts}
+use Rattle.recording.specs.Points.{stops-within, cut-front}
 use Rattle.recording.specs.declared.ending.Ending.{Ending}
 use Rattle.recording.specs.declared.ending.Ending.the-variants.{Done, Stops}
 use Rattle.recording.specs.declared.read.Refusal.{Refusal}

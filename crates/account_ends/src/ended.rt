@@ -34,11 +34,11 @@ pub fn settled(total: u32, packet: &[u8], from: usize, ending: Ending) -> Ended
     match ending {
         Ending::Done => went_on(Unfinished::None, sum),
         Ending::Stops(refusal, at) => {
-            let first = from + at.0;
-            let place = before + first;
+            let inside = from + at.0;
+            let place = before + inside;
             match refusal {
                 Refusal::CutShort => {
-                    let unfinished = held(&packet[first..]);
+                    let unfinished = held(&packet[inside..]);
                     went_on(unfinished, sum)
                 }
                 Refusal::Unlisted => halts(before, refusal, place),
@@ -59,7 +59,7 @@ pub fn put_off(unfinished: Unfinished, total: u32, packet: &[u8]) -> Ended
     went_on(held(&row[..all]), total as usize + packet.len())
 }
 
-// The record that was begun is refused; it starts where its first byte stood, and what the refusal points at stands so many bytes behind that.
+// The record that was begun is refused; it starts where its first byte stood, and the refusal points `at.0` bytes behind that.
 pub fn begun_refused(unfinished: Unfinished, total: u32, refusal: Refusal, at: Place) -> Ended
     requires { ⌜ (length (bytesOf unfinished) ≤ total) × (at .0 ≤ 4) ⌝ }
     ensures { λ r. ⌜ r ≡ halted total refusal (firstPlace unfinished total + at .0) ⌝ }

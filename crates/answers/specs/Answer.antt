@@ -30,7 +30,7 @@ place (Foreign at) = at .0
 place (CutShort at) = at .0
 place (Forbidden at) = at .0
 
--- The answer to a record that is none, at its place, and that its number is the record's.
+-- The answer to a refusal, at the place that it points at, and that its number is the refusal's.
 abbrev pub refusedAs : Refusal → Place → Answer
 refusedAs Record.Unlisted at = Unlisted at
 refusedAs Record.Foreign at = Foreign at

@@ -6,7 +6,7 @@ use mathlib.Core.List.{List}
 use lib.ListN.{length, drop, length-drop}
 use Rattle.terms.specs.declared.Part.{Part}
 use Rattle.recording.specs.Walk.{walked, endOf}
-use Rattle.recording.specs.Steps.{stops-within}
+use Rattle.recording.specs.Points.{stops-within}
 use Rattle.recording.specs.declared.ending.Ending.{Ending}
 use Rattle.recording.specs.declared.ending.Ending.the-variants.{Done, Stops}
 use Rattle.answers.specs.declared.Answer.{Answer}

@@ -26,7 +26,7 @@ pub enum Trial {
     Refused(Answer),
 }
 
-// The answer to a record that is none.
+// The answer to a refusal, at the place that it points at.
 pub fn refused(refusal: Refusal, at: Place) -> Answer
     ensures { λ r. ⌜ r ≡ refusedAs refusal at ⌝ }
 {

@@ -1,7 +1,7 @@
 -- The events of a recording carry bytes. The argument: an event carries what stands in its record, and a recording is
 -- bytes.
 use Prim.Native.Nat.{ℕ, zero, suc, _+_, _<_}
-use mathlib.Core.Path.{subst, subst⁻¹}
+use mathlib.Core.Path.{subst⁻¹}
 use mathlib.Core.List.{List, [], _∷_}
 use lib.ListN.{length, getD, drop}
 use lib.Seq.{getD-drop}

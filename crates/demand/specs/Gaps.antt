@@ -19,8 +19,9 @@ use Rattle.recording.specs.declared.read.Read.the-variants.{Is, Refused}
 use Rattle.recording.specs.declared.ending.Ending.{Ending}
 use Rattle.recording.specs.declared.ending.Ending.the-variants.{Done, Stops}
 use Rattle.recording.specs.Record.{listed, belongs, bodyOf, allowed, eventOf, front}
-use Rattle.recording.specs.Walk.{Walk, stops, next, step, walk, walked, events, endOf, onGap, behindGap}
-use Rattle.recording.specs.Steps.{record-fits, enough}
+use Rattle.recording.specs.Walk.{Walk, next, step, walk, walked, events, endOf, onGap, behindGap}
+use Rattle.recording.specs.Tests.{record-fits}
+use Rattle.recording.specs.Steps.{enough}
 use Rattle.recording.specs.Append.{shifted, from-place}
 use Rattle.whole.specs.Sentence.{isGap, hasGap}
 

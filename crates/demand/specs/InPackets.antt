@@ -22,7 +22,7 @@ use Rattle.walks.specs.Turn.{InTurn}
 use Rattle.parts.specs.Facts.{Fact, same?, range, move}
 use Rattle.recording.specs.Record as Record
 use Rattle.recording.specs.Walk.{walked, events, endOf}
-use Rattle.recording.specs.Steps.{stops-within}
+use Rattle.recording.specs.Points.{stops-within}
 use Rattle.recording.specs.Start.{none}
 use Rattle.recording.specs.Cut.{standsAt, Open, cut-told}
 use Rattle.recording.specs.declared.ending.Ending.{Ending}
@@ -92,7 +92,7 @@ module _ (b : ℕ) (p : Part) (named : partOf b ≡ Is p) (s : Feed) (good : Goo
   abbrev pub all : ℕ
   all = s .total + length (together ls)
 
-  one : (before : ℕ) × Course p (last .answer) (bytesOf (s .unfinished)) (s .total) ls rs before × ReadsRow p (s .panel) (firstPlace s) before all whole last
+  pub one : (before : ℕ) × Course p (last .answer) (bytesOf (s .unfinished)) (s .total) ls rs before × ReadsRow p (s .panel) (firstPlace s) before all whole last
   one = in-one b p named ls (started s) rs (record { good = good; free = free; numbered = refl; placed = refl }) run never bytes
 
   counts : firstPlace s + length whole ≡ all
@@ -104,7 +104,8 @@ module _ (b : ℕ) (p : Part) (named : partOf b ≡ Is p) (s : Feed) (good : Goo
   known-after : KnownAfter p whole (s .panel) (last .feed .panel)
   known-after = record { known = one .2 .known; kept = one .2 .kept }
 
-  by-end : (e : Ending) → endOf (walked p whole) ≡ e → ByEnd e (firstPlace s) (one .0) all whole (ends last)
+  -- How the last packet is answered, by how the whole's records end.
+  pub by-end : (e : Ending) → endOf (walked p whole) ≡ e → ByEnd e (firstPlace s) (one .0) all whole (ends last)
   by-end e q = subst (λ (x : Ending). ByEnd x (firstPlace s) (one .0) all whole (ends last)) q (one .2 .ended)
 
   all-go : (e : Ending) → endOf (walked p whole) ≡ e → Open e → AllGo (s .total) ls rs

@@ -20,9 +20,8 @@ use Rattle.parts.specs.Facts.{same?, range, move}
 use Rattle.recording.specs.Walk.{walked, events, endOf}
 use Rattle.recording.specs.Append.{shifted}
 use Rattle.recording.specs.Cut.{standsAt, leftBy, Open, open-back, open-on, walked-stops, cut-open, left-behind, left-length}
-use Rattle.recording.specs.Points.{cut-front}
 use Rattle.recording.specs.Start.{CutOff, none, some, cut-off}
-use Rattle.recording.specs.Steps.{stops-within}
+use Rattle.recording.specs.Points.{stops-within, cut-front}
 use Rattle.recording.specs.declared.ending.Ending.{Ending}
 use Rattle.recording.specs.declared.ending.Ending.the-variants.{Done, Stops}
 use Rattle.recording.specs.declared.read.Refusal.the-variants.{Unlisted, Foreign, CutShort, Forbidden}

@@ -17,10 +17,13 @@ use Rattle.recording.specs.declared.ending.Ending.{Ending}
 use Rattle.recording.specs.declared.ending.Ending.the-variants.{Done, Stops}
 use Rattle.recording.specs.Record.{front, placeWithin}
 use Rattle.recording.specs.Walk.{walked, events, endOf}
-use Rattle.recording.specs.Steps.{record-fits, rest-next, rest-stops, stops-there, stops-within}
+use Rattle.recording.specs.Steps.{rest-next, rest-stops, stops-there}
+use Rattle.recording.specs.Tests.{record-fits}
+use Rattle.recording.specs.Points.{stops-within}
 use Rattle.recording.specs.Append.{Told, getD-append, front-append, shifted, shift-shift, from-place}
 
--- Where a walk over l stands at its end: behind the last byte, or where it stopped.
+-- Where a walk over l stands at its end, if it is open (below): behind the last byte, or at the first byte of a record that is
+-- cut short, which 7 points at.
 abbrev pub standsAt : Ending → List ℕ → ℕ
 standsAt Done l = length l
 standsAt (Stops x at) l = at .0
@@ -73,7 +76,7 @@ Behind p e l m =
 
 shift-none : (e : Ending) → e ≡ shifted 0 e
 shift-none Done = refl
-shift-none (Stops x at) = let z : at .0 ≡ 0 + at .0 = omega arith in λ i. Stops x (record { 0 = z i })
+shift-none (Stops x at) = stops-there x at (0 + at .0) (omega arith)
 
 pub open-back : (k : ℕ) (e : Ending) → Open (shifted k e) → Open e
 open-back k Done o = o

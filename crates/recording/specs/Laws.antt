@@ -24,15 +24,17 @@ pub other-body : (p : Part) (k : ℕ) (l : List ℕ) → ¬ (k ≡ 1) → ¬ (k 
 other-body p k l one two three four five six seven eight =
     rw (ne-eqb k 6 six, ne-eqb k 8 eight, ne-eqb k 7 seven, ne-eqb k 1 one, ne-eqb k 2 two, ne-eqb k 3 three, ne-eqb k 4 four, ne-eqb k 5 five) refl
 
+-- The first byte from a place on is the one that stands there.
+pub kind-at : (l : List ℕ) (i : ℕ) → getD (drop i l) 0 0 ≡ getD l i 0
+kind-at l i = let e : i + 0 ≡ i = omega arith in getD-drop i l 0 0 ∙ ap (λ (n : ℕ). getD l n 0) e
+
 -- The record at a place, test by test.
 module _ (p : Part) (l : List ℕ) (i : ℕ) where
   abbrev kind : ℕ
   kind = getD l i 0
 
   front-at : front p (drop i l) ≡ ofKind p kind (drop i l)
-  front-at =
-      let e : i + 0 ≡ i = omega arith in
-      ap (λ (k : ℕ). ofKind p k (drop i l)) (getD-drop i l 0 0 ∙ ap (λ (n : ℕ). getD l n 0) e)
+  front-at = ap (λ (k : ℕ). ofKind p k (drop i l)) (kind-at l i)
 
   pub at-unlisted : listed kind ≡ false → Refused Unlisted ≡ front p (drop i l)
   at-unlisted e = sym (front-at ∙ rw e refl)

@@ -1,6 +1,7 @@
 pub mod Record
 pub mod Walk
 pub mod Laws
+pub mod Tests
 pub mod Steps
 pub mod Append
 pub mod Cut

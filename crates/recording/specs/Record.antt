@@ -105,7 +105,8 @@ number CutShort = 7
 number Forbidden = 8
 
 -- The place of a refusal within its record, whose first byte is its kind (M-104): 8 points at the body byte at fault, which
--- is the byte behind the kind for 06 and 08, and the fourth body byte for 07; 5, 6 and 7 point at the record's first byte.
+-- is the byte behind the kind for 06 and 08, and the fourth body byte for 07, on PT6312; 5, 6 and 7 point at the record's first
+-- byte. Of other kinds, and of 07 on other parts, there is no 8 (`Tests.eight-kinds`).
 abbrev pub placeWithin : Refusal → (kind : ℕ) → ℕ
 placeWithin Unlisted kind = 0
 placeWithin Foreign kind = 0

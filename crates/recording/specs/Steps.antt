@@ -4,13 +4,11 @@
 use Prim.Native.Nat.{ℕ, zero, suc, _+_, _-_, _<_, _≤_}
 use native.Mathlib.Omega.{arith}
 use mathlib.Core.Path.{_≡_, refl, ap, _∙_, subst}
-use mathlib.Core.Bool.{Bool, true, false, true≢false, _||_}
+use mathlib.Core.Bool.{false}
 use mathlib.Core.List.{List, [], _∷_}
+use mathlib.Core.Logic.{⊎-elim}
 use lib.ListN.{length, drop, getD, length-drop}
-use lib.Seq.{drop-drop, getD-drop}
-use lib.Dec.{eqb, ltb}
-use borrow.Author.Tests.{ltb-true}
-use Rattle.rules.specs.Choice.{whether, whether-all}
+use lib.Seq.{drop-drop}
 use Rattle.terms.specs.declared.Event.{Event}
 use Rattle.terms.specs.declared.Event.the-variants.{Power, Falls, ByteIn, Rises, Gap, Unfinished, Keys, Switches, ByteOut}
 use Rattle.terms.specs.declared.Place.{Place}
@@ -18,49 +16,28 @@ use Rattle.terms.specs.declared.Part.{Part}
 use Rattle.recording.specs.declared.read.Read.{Read}
 use Rattle.recording.specs.declared.read.Read.the-variants.{Is, Refused}
 use Rattle.recording.specs.declared.read.Refusal.{Refusal}
-use Rattle.recording.specs.declared.read.Refusal.the-variants.{Forbidden}
-use Rattle.recording.specs.Record.{listed, belongs, bodyOf, bitsAllowed, switchesAllowed, fourthAllowed, allowed, front, placeWithin}
-use Rattle.recording.specs.declared.ending.Ending.{Ending}
-use Rattle.recording.specs.declared.ending.Ending.the-variants.{Done, Stops}
-use Rattle.recording.specs.Walk.{Walk, done, stops, next, step, walk, walked, endOf, onGap, behindGap}
+use Rattle.recording.specs.declared.read.Refusal.the-variants.{Unlisted, Foreign, CutShort, Forbidden}
+use Rattle.recording.specs.Record.{bodyOf, allowed, front, placeWithin}
+use Rattle.recording.specs.Laws.{kind-at}
+use Rattle.recording.specs.Tests.{record-fits, forbids, eight-kinds}
+use Rattle.recording.specs.declared.ending.Ending.the-variants.{Stops}
+use Rattle.recording.specs.Walk.{Walk, done, stops, next, step, walk, onGap, behindGap}
 
 -- A value that is not allowed stands in the body.
 in-body : (p : Part) (kind b0 b3 : ℕ) → allowed p kind b0 b3 ≡ false → placeWithin Forbidden kind ≤ bodyOf kind
-in-body p kind b0 b3 = go (eqb kind 3) (eqb kind 6) (eqb kind 8) (eqb kind 7) (bitsAllowed b0) (switchesAllowed b0) (fourthAllowed p b3)
-  where
-    go : (three six eight seven a b c : Bool) → whether six a (whether eight b (whether seven c true)) ≡ false
-        → whether seven 4 1 ≤ whether seven 4 (whether (three || six || eight) 1 0)
-    go three six eight true a b c q = omega arith
-    go true six eight false a b c q = omega arith
-    go false true eight false a b c q = omega arith
-    go false false true false a b c q = omega arith
-    go false false false false a b c q = absurd (true≢false q)
+in-body p kind b0 b3 f =
+    ⊎-elim (λ six. rw six (omega arith)) (⊎-elim (λ eight. rw eight (omega arith)) (λ seven. rw (seven .0) (omega arith))) (eight-kinds p kind b0 b3 f)
 
--- A record has a first byte, and ends within the bytes; and what a refusal points at is within them.
-EndsWithin : List ℕ → Read → Type 0
-EndsWithin l (Is e m) = (1 ≤ m) × (m ≤ length l)
-EndsWithin l (Refused r) = 0 < length l → placeWithin r (getD l 0 0) < length l
-
-ends-within : (p : Part) (l : List ℕ) → EndsWithin l (front p l)
-unfolding EndsWithin
-ends-within p l =
-    whether-all (EndsWithin l) (listed (getD l 0 0)) _ _
-    (λ _. whether-all (EndsWithin l) (belongs p (getD l 0 0)) _ _
-    (λ _. whether-all (EndsWithin l) (ltb (bodyOf (getD l 0 0)) (length l)) _ _
-    (λ e. whether-all (EndsWithin l) (allowed p (getD l 0 0) (getD l 1 0) (getD l 4 0)) _ _
-    (λ _. let h = ltb-true (bodyOf (getD l 0 0)) (length l) e in (omega arith, omega arith))
-    (λ f some. let h = ltb-true (bodyOf (getD l 0 0)) (length l) e in let g = in-body p (getD l 0 0) (getD l 1 0) (getD l 4 0) f in omega (arith, h, g)))
-    (λ _ some. some))
-    (λ _ some. some))
-    (λ _ some. some)
-
-pub record-fits : (p : Part) (l : List ℕ) (e : Event) (m : ℕ) → front p l ≡ Is e m → (1 ≤ m) × (m ≤ length l)
-unfolding EndsWithin
-record-fits p l e m q = subst (EndsWithin l) q (ends-within p l)
-
-pub refusal-fits : (p : Part) (l : List ℕ) (r : Refusal) → 0 < length l → front p l ≡ Refused r → placeWithin r (getD l 0 0) < length l
-unfolding EndsWithin
-refusal-fits p l r some q = subst (EndsWithin l) q (ends-within p l) some
+-- What a refusal points at is within the bytes.
+refusal-fits : (p : Part) (l : List ℕ) (r : Refusal) → 0 < length l → front p l ≡ Refused r → placeWithin r (getD l 0 0) < length l
+refusal-fits p l Unlisted some q = some
+refusal-fits p l Foreign some q = some
+refusal-fits p l CutShort some q = some
+refusal-fits p l Forbidden some q =
+    let f = forbids p l q in
+    let h = f .long in
+    let g = in-body p (getD l 0 0) (getD l 1 0) (getD l 4 0) (f .not-allowed) in
+    omega (arith, h, g)
 
 -- More steps than bytes change nothing.
 pub enough : (n m : ℕ) (p : Part) (at : ℕ) (l : List ℕ) → length l ≤ n → length l ≤ m → walk n p at l ≡ walk m p at l
@@ -104,18 +81,14 @@ module _ (p : Part) (l : List ℕ) (i : ℕ) where
   some : i < length l → 0 < length (drop i l)
   some h = let d = length-drop i l in omega (arith, d)
 
-  -- The record's first byte is its kind.
-  kind-at : getD (drop i l) 0 0 ≡ getD l i 0
-  kind-at = let z : i + 0 ≡ i = omega arith in getD-drop i l 0 0 ∙ ap (λ (n : ℕ). getD l n 0) z
-
   pub rest-stops : (r : Refusal) → i < length l → front p (drop i l) ≡ Refused r → rest p l i ≡ stops r (i + placeWithin r (getD l i 0))
   rest-stops r h q =
       let o = one (drop i l) (some h) in
-      o .2 ∙ ap (by (o .0) (drop i l)) q ∙ ap (λ (k : ℕ). stops r (i + placeWithin r k)) kind-at
+      o .2 ∙ ap (by (o .0) (drop i l)) q ∙ ap (λ (k : ℕ). stops r (i + placeWithin r k)) (kind-at l i)
 
   pub stop-fits : (r : Refusal) → i < length l → front p (drop i l) ≡ Refused r → i + placeWithin r (getD l i 0) < length l
   stop-fits r h q =
-      let f = subst (λ (k : ℕ). placeWithin r k < length (drop i l)) kind-at (refusal-fits p (drop i l) r (some h) q) in
+      let f = subst (λ (k : ℕ). placeWithin r k < length (drop i l)) (kind-at l i) (refusal-fits p (drop i l) r (some h) q) in
       let d = length-drop i l in
       omega (arith, f, d)
 
@@ -134,32 +107,6 @@ module _ (p : Part) (l : List ℕ) (i : ℕ) where
 -- An ending at a place is one at what the place holds.
 pub stops-there : (r : Refusal) (at : Place) (i : ℕ) → at .0 ≡ i → Stops r at ≡ Stops r (record { 0 = i })
 stops-there r at i e = λ j. Stops r (record { 0 = e j })
-
--- A refusal's place is within the bytes.
-Placed : ℕ → Ending → Type 0
-Placed n Done = Unit
-Placed n (Stops r at) = at .0 < n
-
-placed : (n : ℕ) (p : Part) (at : ℕ) (l : List ℕ) → Placed (at + length l) (endOf (walk n p at l))
-unfolding Placed
-placed zero p at l = tt
-placed (suc n) p at [] = tt
-placed (suc n) p at (b ∷ l) = go (front p (b ∷ l)) refl (λ m. placed n p (at + m) (drop m (b ∷ l)))
-  where
-    go : (r : Read) → front p (b ∷ l) ≡ r → ((m : ℕ) → Placed (at + m + length (drop m (b ∷ l))) (endOf (walk n p (at + m) (drop m (b ∷ l)))))
-        → Placed (at + length (b ∷ l)) (endOf (step at b (λ m. walk n p (at + m) (drop m (b ∷ l))) r))
-    go (Is e m) q ih =
-        let f = record-fits p (b ∷ l) e m q in
-        let d = length-drop m (b ∷ l) in
-        let z : at + m + length (drop m (b ∷ l)) ≡ at + length (b ∷ l) = omega (arith, f, d) in
-        subst (λ (k : ℕ). Placed k (endOf (walk n p (at + m) (drop m (b ∷ l))))) z (ih m)
-    go (Refused x) q ih = let f = refusal-fits p (b ∷ l) x (omega arith) q in omega (arith, f)
-
-pub stops-within : (p : Part) (l : List ℕ) (r : Refusal) (at : Place) → endOf (walked p l) ≡ Stops r at → at .0 < length l
-unfolding Placed
-stops-within p l r at e =
-    let z : 0 + length l ≡ length l = omega arith in
-    subst (λ (n : ℕ). at .0 < n) z (subst (Placed (0 + length l)) e (placed (length l) p 0 l))
 
 -- The place behind the last gap is within the bytes.
 pub gap-within : (n : ℕ) (p : Part) (from at : ℕ) (l : List ℕ) → from ≤ at → behindGap from (walk n p at l) ≤ at + length l

@@ -10,15 +10,17 @@ ghost use Rattle.recording.specs.declared.read.Refusal.the-variants.{For
 // The place of a refusal, where the record that is none starts at the place `first`.
 pub fn place_of(refusal: Refusal, bytes: &[u8], first: Place) -> Place
     requires { ⌜ first .0 + placeWithin refusal (getD (now bytes) (first .0) 0) < length (now bytes) ⌝ }
-    ensures { λ r. ⌜ r .0 ≡ first .0 + placeWithin refusal (getD (now (bytes .entry)) (first .0) 0) ⌝ }
+    ensures { λ r. ⌜ r ≡ record { 0 = first .0 + placeWithin refusal (getD (now (bytes .entry)) (first .0) 0) } ⌝ }
 {
-    let i = first.0;
-    let fault = fault_of(bytes[i]);
     match refusal {
         Refusal::Unlisted => first,
         Refusal::Foreign => first,
         Refusal::CutShort => first,
-        Refusal::Forbidden => Place(i + fault),
+        Refusal::Forbidden => {
+            let i = first.0;
+            let fault = fault_of(bytes[i]);
+            Place(i + fault)
+        }
     }
 }
 

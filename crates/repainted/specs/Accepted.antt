@@ -15,7 +15,7 @@ use Rattle.recording.specs.declared.read.Read.the-variants.{Is}
 use Rattle.recording.specs.declared.ending.Ending.the-variants.{Done}
 use Rattle.recording.specs.Record.{front}
 use Rattle.recording.specs.Walk.{Walk, next, step, walk, walked, events, endOf}
-use Rattle.recording.specs.Steps.{record-fits}
+use Rattle.recording.specs.Tests.{record-fits}
 use Rattle.recording.specs.Append.{front-append}
 use Rattle.whole.specs.Usual.{Each}
 use Rattle.segment.specs.declared.chip.Sizes.{Sizes}

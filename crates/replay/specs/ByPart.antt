@@ -64,7 +64,7 @@ module _ (p : Part) (k : Panel) (l : List ℕ) (start : ℕ) (r : Replayed) (met
   pub accepts : Acceptable p k l start → PartDone p (events (walked p (drop start l))) k l r
   accepts a = subst (λ (e : Ending). ByEnding e start k r (PartDone p (events (walked p (drop start l))) k l r)) (a .ends) (passed (a .in-range) (a .short) (a .within))
 
-  -- Refused by 5, 6, 7 or 8: the records stop at one that is none, at its place.
+  -- Refused by 5, 6, 7 or 8: the records stop at one that is none, and the answer has the place that its refusal points at.
   pub record-refused : 5 ≤ number (r .answer)
       → (x : Refusal) × (at : Place) × (endOf (walked p (drop start l)) ≡ Stops x at)
       × RefusedBy (Record.number x) (start + at .0) k r

@@ -7,12 +7,11 @@ use lib.ListN.{length}
 use lib.Dec.{ltb}
 use Rattle.rules.specs.Choice.{whether-all}
 use Rattle.terms.specs.declared.Event.{Event}
-use Rattle.terms.specs.declared.Place.{Place}
 use Rattle.terms.specs.declared.Part.{Part}
 use Rattle.terms.specs.declared.PartRead.{PartRead}
 use Rattle.terms.specs.declared.PartRead.the-variants.{Is, Refused}
 use Rattle.recording.specs.Walk.{Walk, done, stops, next, walked, endOf, onGap, behindGap}
-use Rattle.recording.specs.Steps.{gap-within, stops-there}
+use Rattle.recording.specs.Steps.{gap-within}
 use Rattle.recording.specs.declared.read.Refusal.{Refusal}
 use Rattle.recording.specs.declared.ending.Ending.{Ending}
 use Rattle.recording.specs.declared.ending.Ending.the-variants.{Done, Stops}
@@ -41,9 +40,8 @@ found-done p l u start i q n h =
     let g : start ≡ behindGap 0 (walked p l) = sym (h .gap ∙ ap (behindGap start) q) in
     (λ j. record { answer = A.Done (record { 0 = n j }); start = record { 0 = g j }; end = record { 0 = n j } }) ∙ sym (ap (foundBy p l) (h .ends ∙ ap endOf q))
 
-pub found-stops : (p : Part) (l : List ℕ) (u : Walk) (start : ℕ) (at : Place) (i : ℕ) (r : Refusal) → at .0 ≡ i → u ≡ stops r i → Kept (walked p l) u start
-    → none (refusedAs r at) ≡ foundIn p l
-found-stops p l u start at i r there q h = sym (ap (foundBy p l) (h .ends ∙ ap endOf q ∙ sym (stops-there r at i there)))
+pub found-stops : (p : Part) (l : List ℕ) (u : Walk) (start i : ℕ) (r : Refusal) → u ≡ stops r i → Kept (walked p l) u start → none (refusedAs r (record { 0 = i })) ≡ foundIn p l
+found-stops p l u start i r q h = sym (ap (foundBy p l) (h .ends ∙ ap endOf q))
 
 -- The tail is a part of the recording.
 Inside : List ℕ → Found → Type 0

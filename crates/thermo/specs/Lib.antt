@@ -1,1 +1,2 @@
 pub mod Thermo
+pub mod Refused

@@ -9,9 +9,7 @@ use Rattle.knowing.specs.Know.{know}
 use Rattle.knowing.specs.Turn.{inTurn, in-turn-same}
 use Rattle.knowing.specs.Ways.{Knows}
 use Rattle.terms.specs.declared.Event.{Event}
-use Rattle.terms.specs.declared.Place.{Place}
 use Rattle.recording.specs.Walk.{Walk, done, stops, next, events, endOf}
-use Rattle.recording.specs.Steps.{stops-there}
 use Rattle.recording.specs.declared.read.Refusal.{Refusal}
 use Rattle.recording.specs.declared.ending.Ending.the-variants.{Done, Stops}
 use Rattle.walks.specs.Turn.{InTurn}
@@ -37,6 +35,6 @@ module _ {F K : Type 0} (view : K → F → Standing) (same? : Discrete F) (rang
   pub kept-done : (w : Walk) (first k : K) → Kept w first done k → (Done ≡ endOf w) × InTurn view same? range move (events w) first k
   kept-done w first k h = (sym (h .ends), λ f. sym (h .makes f))
 
-  pub kept-stops : (w : Walk) (first k : K) (r : Refusal) (at : Place) (i : ℕ) → at .0 ≡ i → Kept w first (stops r i) k
-      → (Stops r at ≡ endOf w) × InTurn view same? range move (events w) first k
-  kept-stops w first k r at i there h = (stops-there r at i there ∙ sym (h .ends), λ f. sym (h .makes f))
+  pub kept-stops : (w : Walk) (first k : K) (r : Refusal) (at : ℕ) → Kept w first (stops r at) k
+      → (Stops r (record { 0 = at }) ≡ endOf w) × InTurn view same? range move (events w) first k
+  kept-stops w first k r at h = (sym (h .ends), λ f. sym (h .makes f))

@@ -2,14 +2,17 @@
 -- them, what the whole walk makes of the first one; each arm of the loop takes its event.
 -- Assumes nothing.
 use borrow.Author.Needs.{needs}
-use mathlib.Core.Path.{refl, sym, _∙_}
+use mathlib.Core.Path.{refl, sym, ap, _∙_}
 use mathlib.Core.Logic.{⊎-elim}
 use native.Mathlib.Omega.{arith}
 use Prim.Native.Nat.{_+_, _≤_, _-_}
 use lib.ListN.{length, drop, length-drop}
 use Rattle.terms.specs.declared.Event.the-variants.{ByteIn}
-use Rattle.recording.specs.Steps.{rest, rest-end, rest-next, rest-stops, record-fits, stop-fits}
+use Rattle.recording.specs.Steps.{rest, rest-end, rest-next, rest-stops, stop-fits}
+use Rattle.recording.specs.Tests.{record-fits}
 use Rattle.recording.specs.Walk.{walked, done, next}
+use Rattle.recording.specs.declared.ending.Ending.the-variants.{Stops}
+use Rattle.terms.specs.declared.Place.{Place}
 use Rattle.character.specs.Move.{move}
 use Rattle.character.specs.Fact.{same?, range}
 use Rattle.character_knowledge.specs.declared.knowledge.Knowledge.{Knowledge}
@@ -185,8 +188,8 @@ returns c = let k = c .before in
     let at = k .before .before .before .before .before .loop in
     let w = walked (a .part) (a .bytes .now) in
     let h = rest-stops (a .part) (a .bytes .now) (at .i) _ (k .before .before .before .before .loop-test .taken) (sym (k .before .before .before .record-at .ensures) ∙ k .before .read2 .given .1) in
-    let d = kept-stops kview same? range move w (a .k) _ _ (c .place-of .result) _ (c .place-of .ensures) (kept-as kview same? range move w (a .k) (rest (a .part) (a .bytes .now) (at .i)) _ _ h (at .inv .0 .1)) in
-    record { ended = d .0; known = d .1 }
+    let d = kept-stops kview same? range move w (a .k) _ _ _ (kept-as kview same? range move w (a .k) (rest (a .part) (a .bytes .now) (at .i)) _ _ h (at .inv .0 .1)) in
+    record { ended = ap (λ (x : Place). Stops (k .before .read2 .given .0 .0) x) (c .place-of .ensures) ∙ d .0; known = d .1 }
 
 returns-2 : tie.Need-returns-2 Inv-loop μ-loop
 returns-2 c = let a = c .before .before .before .before .before .before .before .args in

@@ -3,10 +3,13 @@
 use borrow.Author.Needs.{needs}
 use Prim.Native.Nat.{_+_, _≤_, _-_}
 use native.Mathlib.Omega.{arith}
-use mathlib.Core.Path.{_≡_, refl, sym, _∙_, subst}
+use mathlib.Core.Path.{_≡_, refl, sym, ap, _∙_, subst}
 use lib.ListN.{length, drop, length-drop}
-use Rattle.recording.specs.Steps.{rest, rest-end, rest-next, rest-stops, record-fits, stop-fits}
+use Rattle.recording.specs.Steps.{rest, rest-end, rest-next, rest-stops, stop-fits}
+use Rattle.recording.specs.Tests.{record-fits}
 use Rattle.recording.specs.Walk.{walked, done, next}
+use Rattle.recording.specs.declared.ending.Ending.the-variants.{Stops}
+use Rattle.terms.specs.declared.Place.{Place}
 use Rattle.segment.specs.Fact.{same?, range}
 use Rattle.segment.specs.Family.{sizes}
 use Rattle.segment.specs.Move.{move}
@@ -177,8 +180,8 @@ returns c = let k = c .before in
     let at = k .before .before .before .before .before .loop in
     let w = walked (a .part) (a .bytes .now) in
     let h = rest-stops (a .part) (a .bytes .now) (at .i) _ (k .before .before .before .before .loop-test .taken) (sym (k .before .before .before .record-at .ensures) ∙ k .before .read2 .given .1) in
-    let d = kept-stops kview same? (range (sizes (a .family))) (move (sizes (a .family))) w first _ _ (c .place-of .result) _ (c .place-of .ensures) (kept-as kview same? (range (sizes (a .family))) (move (sizes (a .family))) w first (rest (a .part) (a .bytes .now) (at .i)) _ _ h (at .inv .0 .1)) in
-    record { ended = d .0; known = d .1 }
+    let d = kept-stops kview same? (range (sizes (a .family))) (move (sizes (a .family))) w first _ _ _ (kept-as kview same? (range (sizes (a .family))) (move (sizes (a .family))) w first (rest (a .part) (a .bytes .now) (at .i)) _ _ h (at .inv .0 .1)) in
+    record { ended = ap (λ (x : Place). Stops (k .before .read2 .given .0 .0) x) (c .place-of .ensures) ∙ d .0; known = d .1 }
 
 returns-2 : tie.Need-returns-2 Inv-loop μ-loop
 returns-2 c = let a = c .before .before .before .args in

@@ -62,8 +62,8 @@ went-on-requires c κs = search needs
 enum-known-ending : tie.Need-enum-known-ending
 enum-known-ending c = search needs
 
-add-first : tie.Need-add-first
-add-first c = record { fits = omega (arith, within c) }
+add-inside : tie.Need-add-inside
+add-inside c = record { fits = omega (arith, within c) }
 
 add-place : tie.Need-add-place
 add-place c = record { fits = omega (arith, within c) }
@@ -130,7 +130,7 @@ settled-spec =
     enum-told
     went-on-requires
     enum-known-ending
-    add-first
+    add-inside
     add-place
     enum-told-2
     sub-held

@@ -7,7 +7,7 @@ use mathlib.Core.List.{List, _++_}
 use lib.ListN.{length, take, getD, length-append}
 use lib.Seq.{length-take-le}
 use Rattle.recording.specs.Start.{body-four}
-use Rattle.recording.specs.Steps.{stops-within}
+use Rattle.recording.specs.Points.{stops-within}
 use Rattle.panel_walks.specs.Walks.{Walks}
 use Rattle.account.specs.Bytes.{bytesOf, firstFive, wholeOf}
 use Rattle.account.specs.Laws.{first-take}

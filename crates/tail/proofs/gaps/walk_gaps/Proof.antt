@@ -1,12 +1,16 @@
 -- `tail::gaps::walk_gaps` meets its contract: what is left of the walk, from the last gap so far, ends as the whole walk does.
 -- Assumes nothing.
 use borrow.Author.Needs.{needs}
-use mathlib.Core.Path.{sym, _∙_}
+use mathlib.Core.Path.{sym, ap, _∙_}
 use native.Mathlib.Omega.{arith}
 use Prim.Native.Nat.{_+_, _≤_, _-_}
 use lib.ListN.{length, drop, length-drop}
-use Rattle.recording.specs.Steps.{rest, rest-end, rest-next, rest-stops, record-fits, stop-fits}
+use Rattle.recording.specs.Steps.{rest, rest-end, rest-next, rest-stops, stop-fits}
+use Rattle.recording.specs.Tests.{record-fits}
 use Rattle.recording.specs.Walk.{walked}
+use Rattle.terms.specs.declared.Place.{Place}
+use Rattle.answers.specs.Answer.{refusedAs}
+use Rattle.tail.specs.Tail.{none}
 use Rattle.tail.specs.Laws.{Kept, kept-start, kept-next, found-done, found-stops}
 use Rattle.tail.proofs.gaps.walk_gaps.Statement.{statement}
 use Rattle.tail.proofs.gaps.walk_gaps.Tie as tie
@@ -67,7 +71,8 @@ returns c = let k = c .before .before in
     let at = k .before .before .before .before .before .loop in
     let h = rest-stops (a .part) (a .bytes .now) (at .i) _ (k .before .before .before .before .loop-test .taken) (sym (k .before .before .before .record-at .ensures) ∙ k .before .read2 .given .1) in
     (λ j. record { answer = c .refused .ensures j; start = record { 0 = 0 }; end = record { 0 = 0 } })
-    ∙ found-stops (a .part) (a .bytes .now) (rest (a .part) (a .bytes .now) (at .i)) (at .start) (c .before .place-of .result) _ _ (c .before .place-of .ensures) h (at .inv .1)
+    ∙ ap (λ (x : Place). none (refusedAs (k .before .read2 .given .0 .0) x)) (c .before .place-of .ensures)
+    ∙ found-stops (a .part) (a .bytes .now) (rest (a .part) (a .bytes .now) (at .i)) (at .start) _ _ h (at .inv .1)
 
 returns-2 : tie.Need-returns-2 Inv-loop μ-loop
 returns-2 c = let a = c .before .before .before .args in
