@@ -1,20 +1,17 @@
 -- Laws of the field: what the tests tell, and how large a number is that five cells spell.
-use Prim.Native.Nat.{ℕ, _+_, _-_, _*_, _≤_}
+use Prim.Native.Nat.{ℕ, _-_, _≤_}
 use native.Mathlib.Omega.{arith}
-use mathlib.Core.Path.{_≡_, refl, sym, _∙_}
-use mathlib.Core.Bool.{Bool, true, false, _&&_, _||_, true≢false}
+use mathlib.Core.Path.{_≡_, refl, sym}
+use mathlib.Core.Bool.{Bool, true, false, _&&_, true≢false}
 use lib.Dec.{eqb, leb}
 use borrow.Author.Tests.{leb-true}
-use Rattle.rules.specs.Choice.{whether, whether-all}
+use Rattle.rules.specs.Choice.{whether-all}
+use Rattle.half_degrees.specs.Laws.{both-left}
 use Rattle.field.specs.declared.spelling.Five.{Five}
 use Rattle.field.specs.Said.{reading, noReading, notAReading}
 use Rattle.field.specs.Field.{isDigit, isNumber, allDashes, digitIn, halfIn, sizeOf, halvesOf, spelled}
 
--- Both tests of two hold.
-pub both-left : (a b : Bool) → (a && b) ≡ true → a ≡ true
-both-left true b e = refl
-both-left false b e = e
-
+-- The second of two tests that hold both.
 pub both-right : (a b : Bool) → (a && b) ≡ true → b ≡ true
 both-right true b e = e
 both-right false b e = absurd (true≢false (sym e))

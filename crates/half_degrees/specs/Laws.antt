@@ -2,16 +2,16 @@
 -- The argument: the double is rounded from the very fraction that the whole number is, and a format writes each number
 -- in one way, with an odd significand.
 use Prim.Native.Nat.{ℕ, zero, suc, _+_, _*_, _%_, _^_, _<_}
-use native.Mathlib.Nat.{mul-assoc, mul-comm, mul-one, mul-left-comm, mul-right-comm, zero-mul, mul-pos, zero-lt-suc, pow-succ', pow-suc, eq-of-mul-eq-mul-right}
+use native.Mathlib.Nat.{mul-assoc, mul-one, mul-left-comm, mul-right-comm, zero-mul, mul-pos, zero-lt-suc, pow-succ', pow-suc, eq-of-mul-eq-mul-right}
 use native.Mathlib.Omega.{arith}
-use mathlib.Core.Path.{_≡_, refl, sym, ap, _∙_, subst}
+use mathlib.Core.Path.{_≡_, refl, sym, ap, _∙_}
 use mathlib.Core.Bool.{Bool, true, false, not, _&&_, true≢false}
 use lib.IntN.{ℤ, pos, negsuc}
 use lib.Dec.{T, eqb, ltb, leb, eqb→eq}
 use borrow.Author.Tests.{eqb-true}
 use lib.Pow.{pow-add}
 use lib.Ieee.{Float, nan, inf, fin, Format, binary32, prec, emax, low, up, down, round, sum, add, eq, ofInt, fits, toBits, isNan}
-use lib.Ieee.Fits.{up-pos, down-pos, and-l}
+use lib.Ieee.Fits.{down-pos, and-l}
 use lib.Ieee.Exact.{HasValue}
 use lib.Ieee.Back.{whole-unique}
 use lib.Ieee.Scale.{round-same}
@@ -43,7 +43,7 @@ double-whole f (negsuc n) v = double f true (suc n) v
 
 -- ---- one number
 
-both-left : (a b : Bool) → (a && b) ≡ true → a ≡ true
+pub both-left : (a b : Bool) → (a && b) ≡ true → a ≡ true
 both-left true b e = refl
 both-left false b e = e
 
