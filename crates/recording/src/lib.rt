@@ -1,8 +1,7 @@
-// The recording: one record at its front, as an event, or why it is none, and where.
+// The recording: one record at its front, as an event, or why it is none.
 mod bodies;
 mod ending;
 mod kinds;
-mod places;
 mod read;
 
 pub use bodies::bits_allowed;
@@ -12,7 +11,6 @@ pub use bodies::switches_allowed;
 pub use ending::Ending;
 pub use kinds::has_keys;
 pub use kinds::has_switches;
-pub use places::place_of;
 pub use read::Read;
 pub use read::Refusal;
 pub use read::record_at;

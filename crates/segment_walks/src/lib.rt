@@ -1,8 +1,8 @@
 // The walk for PT6312 and PT6315.
 use changes::put;
+use pointing::place_of;
 use recording::Ending;
 use recording::Read;
-use recording::place_of;
 use recording::record_at;
 use segment::Family;
 use segment_knowledge::Control;

@@ -1,8 +1,8 @@
 // The walk that looks for gaps.
 use answers::Answer;
 use answers::refused;
+use pointing::place_of;
 use recording::Read;
-use recording::place_of;
 use recording::record_at;
 use tail_starts::behind;
 use terms::Part;

@@ -1,9 +1,9 @@
--- `recording::places::fault_of` meets its contract: 07, and the others.
+-- `pointing::fault_of` meets its contract: 07, and the others.
 -- Assumes nothing.
 use mathlib.Core.Path.{refl}
 use borrow.Author.Tests.{ne-eqb}
-use Rattle.recording.proofs.places.fault_of.Statement.{statement}
-use Rattle.recording.proofs.places.fault_of.Tie as tie
+use Rattle.pointing.proofs.fault_of.Statement.{statement}
+use Rattle.pointing.proofs.fault_of.Tie as tie
 
 returns : tie.Need-returns
 returns c = rw (c .match .keys1) refl

@@ -1,11 +1,11 @@
 // Where a refusal points.
-use crate::read::Refusal;
+use recording::Refusal;
 use terms::Place;
 ghost use mathlib.Core.Path.{_≡_};
 ghost use Prim.Native.Nat.{_+_, _<_};
 ghost use lib.ListN.{length, getD};
 ghost use Rattle.recording.specs.Record.{placeWithin};
 ghost use Rattle.recording.specs.declared.read.Refusal.the-variants.{Forbidden};
 
 // The place of a refusal, where the record that is none starts at the place `first`. The kind is looked at for every refusal: so compiled, a walk takes
 // one to three instructions a record less than with the look in the last arm.

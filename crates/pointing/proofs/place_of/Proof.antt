@@ -1,12 +1,12 @@
--- `recording::places::place_of` meets its contract: refusal by refusal, as the definition has them.
+-- `pointing::place_of` meets its contract: refusal by refusal, as the definition has them.
 -- Assumes nothing.
 use Prim.Native.Nat.{ℕ, _+_}
 use native.Mathlib.Omega.{arith}
 use mathlib.Core.Path.{_≡_}
 use borrow.Author.Needs.{needs}
 use Rattle.terms.specs.declared.Place.{Place}
-use Rattle.recording.proofs.places.place_of.Statement.{statement}
-use Rattle.recording.proofs.places.place_of.Tie as tie
+use Rattle.pointing.proofs.place_of.Statement.{statement}
+use Rattle.pointing.proofs.place_of.Tie as tie
 
 -- The record's first byte.
 here : (at : Place) → at ≡ record { 0 = at .0 + 0 }
