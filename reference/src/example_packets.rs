@@ -5,6 +5,7 @@
 //! the `@` is the total, and the refusal behind the `$` stands. Everything is known unless words say otherwise. Each
 //! line behind it that begins with `/` is a packet.
 
+use crate::answer::Answer;
 use crate::example_halves::Halves;
 use crate::example_known::known;
 use crate::example_lines::{bytes_in, bytes_in_words, Line};
@@ -51,10 +52,20 @@ impl Example {
         rows
     }
 
+    /// What is kept, and what is known, behind the lines so far.
+    pub fn packets(&self) -> &Packets {
+        &self.packets
+    }
+
+    /// The answer to the packet of a line.
+    pub fn take(&mut self, line: &str) -> Answer {
+        let packet = line.strip_prefix('/').expect("a packet begins with /");
+        self.packets.take(&bytes_in(packet))
+    }
+
     /// The rows that must stand behind the line of a packet, which is taken.
     pub fn written_behind(&mut self, line: &str) -> Vec<String> {
-        let packet = line.strip_prefix('/').expect("a packet begins with /");
-        let answer = self.packets.take(&bytes_in(packet));
+        let answer = self.take(line);
         let mut rows = vec![format!("    packet {}", answer_in_words(answer))];
         rows.extend(self.written());
         rows

@@ -9,7 +9,7 @@ use crate::example_halves::Halves;
 use crate::example_known::known;
 use crate::example_lines::{bytes_in_words, Line, Saying};
 use crate::show::answer_in_words;
-use crate::tail::tail_of;
+use crate::tail::{tail_of, Tail};
 use crate::{example_character_panels, example_key_panels};
 
 /// So much of a tail is shown.
@@ -18,11 +18,7 @@ const SHOWN: usize = 16;
 /// The rows that must stand behind the line.
 pub fn written(line: &str) -> Vec<String> {
     let line = Line::read(line);
-    let mut halves = halves(&line);
-    let answer = match halves.of_part() {
-        Some(knowledge) => knowledge.replay(&line.bytes, line.number.unwrap_or(0)),
-        None => Answer::refused(Answer::NO_SUCH_PART, 0),
-    };
+    let (answer, mut halves) = replayed(&line);
     let mut rows = vec![format!("    replay {}", answer_in_words(answer))];
     match halves.of_part() {
         Some(knowledge) if line.words.is_empty() => rows.push(known(knowledge)),
@@ -30,6 +26,22 @@ pub fn written(line: &str) -> Vec<String> {
     }
     rows.push(tail_row(&line));
     rows
+}
+
+/// The answer to the replay, and the tail.
+pub fn outcome(line: &Line) -> (Answer, Tail) {
+    let (answer, _) = replayed(line);
+    (answer, tail_of(line.part, &line.bytes))
+}
+
+/// The answer, and what is known behind it.
+fn replayed(line: &Line) -> (Answer, Halves) {
+    let mut halves = halves(line);
+    let answer = match halves.of_part() {
+        Some(knowledge) => knowledge.replay(&line.bytes, line.number.unwrap_or(0)),
+        None => Answer::refused(Answer::NO_SUCH_PART, 0),
+    };
+    (answer, halves)
 }
 
 /// `known` stands before the others, which make the LED or the port known, as what it cannot be.

@@ -112,3 +112,23 @@ pub fn strobes_in(mut recording: &[u8]) -> Vec<Vec<u8>> {
         }
     }
 }
+
+/// How long a record of this kind is; a kind that is none is one byte.
+pub fn record_length(kind: u8) -> usize {
+    match kind {
+        0x03 | 0x06 | 0x08 => 2,
+        0x07 => 5,
+        _ => 1,
+    }
+}
+
+/// The places at which records start, good or bad, as their kinds have it.
+pub fn record_starts(recording: &[u8]) -> Vec<usize> {
+    let mut starts = Vec::new();
+    let mut place = 0;
+    while let Some(&kind) = recording.get(place) {
+        starts.push(place);
+        place += record_length(kind);
+    }
+    starts
+}

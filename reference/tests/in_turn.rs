@@ -2,15 +2,8 @@
 
 use reference::knowledge::{Knowledge, PARTS};
 use reference::random::Random;
+use reference::recording::record_length;
 use reference::trial_recordings::any_recording;
-
-fn record_length(kind: u8) -> usize {
-    match kind {
-        0x03 | 0x06 | 0x08 => 2,
-        0x07 => 5,
-        _ => 1,
-    }
-}
 
 #[test]
 fn a_recording_is_its_records_in_turn() {

@@ -1,13 +1,17 @@
 //! Feeds the same inputs to two programs and compares what they print, byte for byte; or feeds lines to one program,
-//! and compares what it writes behind them with the update or the temperature here.
+//! and compares what it writes behind them with the replay, the packets, the update or the temperature here.
 //!
 //! `differential [--bench | --thermo] ONE OTHER [SEED] [COUNT]`
-//! `differential --updates | --temperatures PROGRAM [SEED] [COUNT]`
+//! `differential --recordings | --packets | --updates | --temperatures PROGRAM [SEED] [COUNT]`
 
+mod answers;
+mod bad_bodies;
 mod fields;
 mod mirrors;
+mod packets;
 mod pairs;
 mod programs;
+mod recordings;
 mod sections;
 mod temperatures;
 mod thermometers;
@@ -19,7 +23,7 @@ use std::{env, io, process};
 fn main() -> io::Result<()> {
     let Some(compared) = compare() else {
         eprintln!("usage: differential [--bench | --thermo] ONE OTHER [SEED] [COUNT]");
-        eprintln!("       differential --updates | --temperatures PROGRAM [SEED] [COUNT]");
+        eprintln!("       differential --recordings | --packets | --updates | --temperatures PROGRAM [SEED] [COUNT]");
         process::exit(2);
     };
     let no_difference = compared?;
@@ -35,12 +39,9 @@ fn compare() -> Option<io::Result<bool>> {
     let option = words.next_if(|word| word.starts_with("--"));
     let option = option.as_deref().unwrap_or("");
     let one = words.next()?;
-    if let "--updates" | "--temperatures" = option {
+    if let Some(compare_lines) = comparison_of_lines(option) {
         let (seed, count) = seed_and_count(words)?;
-        return Some(match option {
-            "--updates" => updates::compare(&one, seed, count),
-            _ => temperatures::compare(&one, seed, count),
-        });
+        return Some(compare_lines(&one, seed, count));
     }
     let other = words.next()?;
     let (seed, count) = seed_and_count(words)?;
@@ -54,6 +55,19 @@ fn compare() -> Option<io::Result<bool>> {
         "" => Some(mirrors::compare(&pair, false)),
         "--bench" => Some(mirrors::compare(&pair, true)),
         "--thermo" => Some(thermometers::compare(&pair)),
+        _ => None,
+    }
+}
+
+/// Of a program, a seed and a count.
+type ComparisonOfLines = fn(&str, u64, usize) -> io::Result<bool>;
+
+fn comparison_of_lines(option: &str) -> Option<ComparisonOfLines> {
+    match option {
+        "--recordings" => Some(recordings::compare),
+        "--packets" => Some(packets::compare),
+        "--updates" => Some(updates::compare),
+        "--temperatures" => Some(temperatures::compare),
         _ => None,
     }
 }

@@ -1,5 +1,6 @@
 //! Compares two mirror programs, or two benchmark programs, on recordings of every part.
 
+use crate::answers::Answers;
 use crate::pairs::Pair;
 use reference::knowledge::replay_from_nothing;
 use reference::random::Random;
@@ -8,20 +9,22 @@ use std::io;
 
 /// Benchmark programs expect two numbers in front and print a checksum.
 pub fn compare(pair: &Pair, bench: bool) -> io::Result<bool> {
-    let mut answers_by_number = [0; 9];
+    let mut answers = Answers::default();
     let same = pair.prints_the_same(|number| {
         let trial = trial_input(pair.seed, number);
         let (&part, recording) = trial.split_first().unwrap_or((&0, &[]));
         let (answer, _) = replay_from_nothing(part, recording);
-        answers_by_number[usize::from(answer.number)] += 1;
+        answers.take(answer);
         if bench {
             bench_input(number, answer.number == 0, &trial)
         } else {
             trial
         }
     })?;
+    // The numbers are those that this package's own replay gives for the same recordings.
     if same {
-        print_summary(&answers_by_number);
+        let (all, summary) = (answers.all(), answers.summary());
+        println!("{all} recordings compared, no difference: {summary}");
     }
     Ok(same)
 }
@@ -50,16 +53,4 @@ fn packet_size(number: usize) -> usize {
     } else {
         0
     }
-}
-
-/// The numbers are those that this package's own replay gives for the same recordings.
-fn print_summary(answers_by_number: &[usize; 9]) {
-    let all: usize = answers_by_number.iter().sum();
-    let mut summary = format!("{} done", answers_by_number[0]);
-    for (number, times) in answers_by_number.iter().enumerate().skip(1) {
-        if *times > 0 {
-            summary += &format!(", {times} refused with {number}");
-        }
-    }
-    println!("{all} recordings compared, no difference: {summary}");
 }

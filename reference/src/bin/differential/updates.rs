@@ -11,7 +11,7 @@ use std::io;
 const SECTION: Section = Section {
     name: "updates",
     trial: trial_update,
-    expected: |line| Example::read(line).written(),
+    expected: |line| vec![Example::read(line).written()],
     is_good,
 };
 
