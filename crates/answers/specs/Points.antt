@@ -27,7 +27,7 @@ pub record PointsIn (p : Part) (l : List ℕ) (from ahead : ℕ) (a : Answer) : 
   pub points : Points p l from refusal at
 
 module _ (p : Part) (l : List ℕ) (from ahead : ℕ) (a : Answer) where
-  -- So it is where the records end so.
+  -- Where the records end at a refusal, and the answer has its number and place.
   pub points-in : (x : Refusal) (at : Place) → endOf (walked p (drop from l)) ≡ Stops x at → number a ≡ Record.number x
       → place a ≡ ahead + (from + at .0) → PointsIn p l from ahead a
   points-in x at q n there = record { refusal = x; at = from + at .0; numbered = n; placed = there; points = points p l from x at q }

@@ -108,6 +108,18 @@ module _ (b : ℕ) (p : Part) (named : partOf b ≡ Is p) (s : Feed) (good : Goo
   pub by-end : (e : Ending) → endOf (walked p whole) ≡ e → ByEnd e (firstPlace s) (one .0) all whole (ends last)
   by-end e q = subst (λ (x : Ending). ByEnd x (firstPlace s) (one .0) all whole (ends last)) q (one .2 .ended)
 
+  -- A refusal by 5, 6 or 8: number, place, what is kept, and that it stands.
+  pub told-halts : (x : Refusal) (at : Place) → endOf (walked p whole) ≡ Stops x at → (Open (Stops x at) → ⊥)
+      → Halts (Record.number x) (firstPlace s + at .0) (one .0) (ends last)
+  told-halts x at q shut = halting x shut (by-end (Stops x at) q)
+    where
+      halting : (y : Refusal) → (Open (Stops y at) → ⊥) → ByEnd (Stops y at) (firstPlace s) (one .0) all whole (ends last)
+          → Halts (Record.number y) (firstPlace s + at .0) (one .0) (ends last)
+      halting Unlisted no-way h = h
+      halting Foreign no-way h = h
+      halting CutShort no-way h = absurd (no-way tt)
+      halting Forbidden no-way h = h
+
   all-go : (e : Ending) → endOf (walked p whole) ≡ e → Open e → AllGo (s .total) ls rs
   all-go e q o = course-open p (last .answer) (bytesOf (s .unfinished)) (s .total) ls rs (one .0) (one .1) (subst⁻¹ Open q o)
 
@@ -206,15 +218,8 @@ module _ (b : ℕ) (p : Part) (named : partOf b ≡ Is p) (s : Feed) (good : Goo
         × Halts (Record.number x) (firstPlace s + at .0) before (ends last) × Answers a (Record.number x) (firstPlace s + at .0)
     packets-refused x at q shut = (one .0, one .1, known-after, h, close)
       where
-        halting : (y : Refusal) → (Open (Stops y at) → ⊥) → ByEnd (Stops y at) (firstPlace s) (one .0) all whole (ends last)
-            → Halts (Record.number y) (firstPlace s + at .0) (one .0) (ends last)
-        halting Unlisted no-way h = h
-        halting Foreign no-way h = h
-        halting CutShort no-way h = absurd (no-way tt)
-        halting Forbidden no-way h = h
-
         h : Halts (Record.number x) (firstPlace s + at .0) (one .0) (ends last)
-        h = halting x shut (by-end (Stops x at) q)
+        h = told-halts x at q shut
 
         stood : Good p (last .feed) × (last .feed .kept ≡ Stands.Refused (last .answer))
         stood = good-halted p (s .panel) (firstPlace s) (one .0) all whole last (good .in-range) bytes counts (one .2) (λ o. shut (subst Open q o))

@@ -4,7 +4,7 @@ use Prim.Native.Nat.{ℕ, zero, suc, _+_, _<_, _≤_}
 use native.Mathlib.Omega.{arith}
 use mathlib.Core.Path.{_≡_, refl}
 use mathlib.Core.List.{List, [], _∷_, _++_}
-use lib.ListN.{getD}
+use lib.ListN.{length, getD}
 use Rattle.knowing.specs.Standing.{Sound}
 use Rattle.terms.specs.declared.Place.{Place}
 use Rattle.terms.specs.declared.Part.{Part}
@@ -14,6 +14,7 @@ use Rattle.terms.specs.Part.{partOf}
 use Rattle.parts.specs.Facts.{range}
 use Rattle.recording.specs.Record as Record
 use Rattle.recording.specs.Walk.{walked, endOf}
+use Rattle.recording.specs.Cut.{Open}
 use Rattle.recording.specs.declared.ending.Ending.{Ending}
 use Rattle.recording.specs.declared.ending.Ending.the-variants.{Done, Stops}
 use Rattle.recording.specs.declared.read.Refusal.{Refusal}
@@ -32,10 +33,24 @@ use Rattle.feed.specs.Feed.{Good, opening, firstPlace}
 use Rattle.feed.specs.Close.{Closes}
 use Rattle.packets.specs.declared.records.Taken.{Taken}
 use Rattle.packets.specs.Takes.{ends}
-use Rattle.packets.specs.Run.{Run, together, started, ending, NoFour}
+use Rattle.packets.specs.Run.{Run, together, started, ending, NoFour, AllAnswered, Course, over, goes, halts}
 use Rattle.demand.specs.Recording.{AllBytes}
 use Rattle.demand.specs.NoFour.{no-four}
-use Rattle.demand.specs.InPackets.{opened-good, one, by-end, packets-accepted, packets-cut-short, packets-refused}
+use Rattle.demand.specs.InPackets.{opened-good, one, by-end, told-halts, packets-accepted, packets-cut-short, packets-refused}
+
+-- Each answer of 5, 6, 7 or 8 is a.
+abbrev pub AllLast : Answer → List Taken → Type 0
+AllLast a [] = Unit
+AllLast a (r ∷ rs) = (5 ≤ number (r .answer) → r .answer ≡ a) × AllLast a rs
+
+answered-alike : (a : Answer) (rs : List Taken) → AllAnswered a rs → AllLast a rs
+answered-alike a [] h = tt
+answered-alike a (r ∷ rs) h = (λ five. h .0, answered-alike a rs (h .1))
+
+course-alike : (p : Part) (a : Answer) (row : List ℕ) (total : ℕ) (ls : List (List ℕ)) (rs : List Taken) (before : ℕ) → Course p a row total ls rs before → AllLast a rs
+course-alike p a row total ls rs before (over _ _) = tt
+course-alike p a row total ls rs before (goes _ _ l ms r qs _ _ z at c) = (λ five. absurd (omega (arith, z, five)), course-alike p a (row ++ l) (total + length l) ms qs before c)
+course-alike p a row total ls rs before (halts _ _ l ms r qs shut all) = answered-alike a (r ∷ qs) all
 
 module _ (b : ℕ) (p : Part) (named : partOf b ≡ Is p) (s : Feed) (good : Good p s) (free : s .kept ≡ Stands.None) (ls : List (List ℕ))
     (rs : List Taken) (run : Run (partOf b) s ls rs) (never : NoFour rs) (bytes : AllBytes (bytesOf (s .unfinished) ++ together ls)) where
@@ -50,21 +65,27 @@ module _ (b : ℕ) (p : Part) (named : partOf b ≡ Is p) (s : Feed) (good : Goo
       → PointsIn p whole 0 (firstPlace s) a
   pointing a x at q h = let there = h .placed in points-in p whole 0 (firstPlace s) a x at q (h .numbered) (omega (arith, there))
 
+  -- Every answer that is a record's refusal is the last one.
+  pub refused-alike : AllLast (last .answer) rs
+  refused-alike = course-alike p (last .answer) (bytesOf (s .unfinished)) (s .total) ls rs (one b p named s good free ls rs run never bytes .0) (one b p named s good free ls rs run never bytes .1)
+
   -- The last answer, where it is a record's refusal, points into the row that the packets make, however that is cut, with what came
-  -- before it counted; and it stands. So does every answer, since it is the last of the packets up to its own.
+  -- before it counted; and it stands.
   pub packets-point : 5 ≤ number (last .answer) → PointsIn p whole 0 (firstPlace s) (last .answer) × (last .feed .kept ≡ Stands.Refused (last .answer))
   packets-point five = by (endOf (walked p whole)) refl
     where
-      halting : (x : Refusal) (at : Place) → endOf (walked p whole) ≡ Stops x at → Halts (Record.number x) (firstPlace s + at .0) (one b p named s good free ls rs run never bytes .0) (ends last)
+      told : (x : Refusal) (at : Place) → endOf (walked p whole) ≡ Stops x at → (Open (Stops x at) → ⊥)
           → PointsIn p whole 0 (firstPlace s) (last .answer) × (last .feed .kept ≡ Stands.Refused (last .answer))
-      halting x at q h = (pointing (last .answer) x at q (record { numbered = h .numbered; placed = h .placed }), h .stands)
+      told x at q shut =
+          let h = told-halts b p named s good free ls rs run never bytes x at q shut in
+          (pointing (last .answer) x at q (record { numbered = h .numbered; placed = h .placed }), h .stands)
 
       by : (e : Ending) → endOf (walked p whole) ≡ e → PointsIn p whole 0 (firstPlace s) (last .answer) × (last .feed .kept ≡ Stands.Refused (last .answer))
       by Done q = absurd (let n = by-end b p named s good free ls rs run never bytes Done q .numbered in omega (arith, n, five))
-      by (Stops Unlisted at) q = halting Unlisted at q (by-end b p named s good free ls rs run never bytes (Stops Unlisted at) q)
-      by (Stops Foreign at) q = halting Foreign at q (by-end b p named s good free ls rs run never bytes (Stops Foreign at) q)
+      by (Stops Unlisted at) q = told Unlisted at q (λ o. o)
+      by (Stops Foreign at) q = told Foreign at q (λ o. o)
       by (Stops CutShort at) q = absurd (let n = by-end b p named s good free ls rs run never bytes (Stops CutShort at) q .numbered in omega (arith, n, five))
-      by (Stops Forbidden at) q = halting Forbidden at q (by-end b p named s good free ls rs run never bytes (Stops Forbidden at) q)
+      by (Stops Forbidden at) q = told Forbidden at q (λ o. o)
 
   -- Closing's answer points into that row, too; it may also be 7.
   pub closing-points : (a : Answer) → Closes (partOf b) (last .feed) a → 5 ≤ number a → PointsIn p whole 0 (firstPlace s) a

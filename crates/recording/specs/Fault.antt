@@ -30,7 +30,8 @@ only-looked p kind b0 b3 = by (eqb kind 7) refl
     by false t = rw t refl
 
 -- The byte at the place `at` alone is at fault in what starts at the place `first`. Whatever else a recording of the same length
--- holds: as long as the kind and that byte stand, so does 8; and with an allowed value in that byte's place it is a record.
+-- holds: as long as the kind and that byte stand, so does 8; and with an allowed value in that byte's place it is a record. The
+-- value stands for both bytes that `allowed` asks about, of which a kind looks at one.
 pub record Blames (p : Part) (l : List ℕ) (first at : ℕ) : Type 0 where
   pub stands : (m : List ℕ) → length m ≡ length l → getD m first 0 ≡ getD l first 0 → getD m at 0 ≡ getD l at 0 → front p (drop first m) ≡ Refused Forbidden
   pub mends : (m : List ℕ) → length m ≡ length l → getD m first 0 ≡ getD l first 0 → allowed p (getD l first 0) (getD m at 0) (getD m at 0) ≡ true
