@@ -8,7 +8,7 @@ ghost use Rattle.recording.specs.Record.{placeWithin};
 ghost use Rattle.recording.specs.declared.read.Refusal.the-variants.{Forbidden};
 
 // The place of a refusal, where the record that is none starts at the place `first`. The kind is looked at for every refusal: so compiled, a walk takes
-// one to three instructions a record less than with the look in the last arm.
+// two to four instructions a record less than with the look in the last arm.
 pub fn place_of(refusal: Refusal, bytes: &[u8], first: Place) -> Place
     requires { ⌜ first .0 + placeWithin refusal (getD (now bytes) (first .0) 0) < length (now bytes) ⌝ }
     ensures { λ r. ⌜ r ≡ record { 0 = first .0 + placeWithin refusal (getD (now (bytes .entry)) (first .0) 0) } ⌝ }

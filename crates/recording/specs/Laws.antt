@@ -1,5 +1,6 @@
 -- The kinds that a match of the code does not name, the record at a place, and the part from a place on.
-use Prim.Native.Nat.{ℕ, _+_, _-_, _<_, _≤_}
+use Prim.Native.Nat.{ℕ, zero, suc, _+_, _-_, _<_, _≤_}
+use native.Mathlib.Nat.{zero-lt-suc}
 use native.Mathlib.Omega.{arith}
 use mathlib.Core.Path.{_≡_, refl, sym, ap, _∙_}
 use mathlib.Core.Bool.{true, false}
@@ -12,7 +13,7 @@ use Rattle.terms.specs.declared.Part.{Part}
 use Rattle.recording.specs.declared.read.Read.{Read}
 use Rattle.recording.specs.declared.read.Read.the-variants.{Is, Refused}
 use Rattle.recording.specs.declared.read.Refusal.the-variants.{Unlisted, Foreign, CutShort}
-use Rattle.recording.specs.Record.{listed, belongs, bodyOf, ofBody, ofKind, front}
+use Rattle.recording.specs.Record.{listed, keyed, switched, belongs, bodyOf, ofUnfinished, ofSwitches, ofKeys, ofBody, ofKind, front}
 
 pub no-body : (k : ℕ) → ¬ (k ≡ 3) → ¬ (k ≡ 6) → ¬ (k ≡ 7) → ¬ (k ≡ 8) → bodyOf k ≡ 0
 no-body k three six seven eight = rw (ne-eqb k 7 seven, ne-eqb k 3 three, ne-eqb k 6 six, ne-eqb k 8 eight) refl
@@ -23,6 +24,17 @@ no-inputs p k seven eight nine = rw (ne-eqb k 7 seven, ne-eqb k 9 nine, ne-eqb k
 pub other-body : (p : Part) (k : ℕ) (l : List ℕ) → ¬ (k ≡ 1) → ¬ (k ≡ 2) → ¬ (k ≡ 3) → ¬ (k ≡ 4) → ¬ (k ≡ 5) → ¬ (k ≡ 6) → ¬ (k ≡ 7) → ¬ (k ≡ 8) → ofBody p k l ≡ Is ByteOut 1
 other-body p k l one two three four five six seven eight =
     rw (ne-eqb k 6 six, ne-eqb k 8 eight, ne-eqb k 7 seven, ne-eqb k 1 one, ne-eqb k 2 two, ne-eqb k 3 three, ne-eqb k 4 four, ne-eqb k 5 five) refl
+
+past-six : (k : ℕ) → 0 < k → ¬ (k ≡ 1) → ¬ (k ≡ 2) → ¬ (k ≡ 3) → ¬ (k ≡ 4) → ¬ (k ≡ 5) → ¬ (k ≡ 6) → 7 ≤ k
+past-six k h one two three four five six = omega arith
+
+past-nine : (k : ℕ) → 7 ≤ k → ¬ (k ≡ 7) → ¬ (k ≡ 8) → ¬ (k ≡ 9) → 10 ≤ k
+past-nine k h seven eight nine = omega arith
+
+pub not-listed : (k : ℕ) → ¬ (k ≡ 1) → ¬ (k ≡ 2) → ¬ (k ≡ 3) → ¬ (k ≡ 4) → ¬ (k ≡ 5) → ¬ (k ≡ 6) → ¬ (k ≡ 7) → ¬ (k ≡ 8) → ¬ (k ≡ 9) → listed k ≡ false
+not-listed zero one two three four five six seven eight nine = refl
+not-listed (suc n) one two three four five six seven eight nine =
+    rw (lt-ltb 0 (suc n) (zero-lt-suc n), le-ltb (suc n) 10 (past-nine (suc n) (past-six (suc n) (zero-lt-suc n) one two three four five six) seven eight nine)) refl
 
 -- The first byte from a place on is the one that stands there.
 pub kind-at : (l : List ℕ) (i : ℕ) → getD (drop i l) 0 0 ≡ getD l i 0
@@ -47,6 +59,29 @@ module _ (p : Part) (l : List ℕ) (i : ℕ) where
 
   pub at-body : (r : Read) → listed kind ≡ true → belongs p kind ≡ true → bodyOf kind < length l - i → r ≡ ofBody p kind (drop i l) → r ≡ front p (drop i l)
   at-body r e f h q = q ∙ sym (front-at ∙ rw (e, f, lt-ltb (bodyOf kind) (length (drop i l)) (rw (length-drop i l) h)) refl)
+
+  -- 01 to 06 are of every part.
+  pub at-common : (r : Read) → 0 < kind → kind < 7 → bodyOf kind < length l - i → r ≡ ofBody p kind (drop i l) → r ≡ front p (drop i l)
+  at-common r a b h q =
+      at-body r
+      (rw (lt-ltb 0 kind a, lt-ltb kind 10 (omega (arith, b))) refl)
+      (no-inputs p kind (λ e. omega (arith, b, e)) (λ e. omega (arith, b, e)) (λ e. omega (arith, b, e)))
+      h
+      q
+
+  -- 07 to 09 by their numbers, where the part has them.
+  pub at-own : (k : ℕ) (r : Read) → kind ≡ k → listed k ≡ true → belongs p k ≡ true → bodyOf k < length l - i → r ≡ ofBody p k (drop i l) → r ≡ front p (drop i l)
+  at-own k r e f g h q = at-body r (rw e f) (rw e g) (rw e h) (rw e q)
+
+  -- The bodies of 06, 08 and 07 where they stand.
+  pub at-bits : (r : Read) → kind ≡ 6 → 1 < length l - i → r ≡ ofUnfinished (getD l (i + 1) 0) → r ≡ front p (drop i l)
+  at-bits r e h q = at-common r (omega (arith, e)) (omega (arith, e)) (rw e h) (rw (e, getD-drop i l 1 0) q)
+
+  pub at-switches : (r : Read) → kind ≡ 8 → switched p ≡ true → 1 < length l - i → r ≡ ofSwitches (getD l (i + 1) 0) → r ≡ front p (drop i l)
+  at-switches r e f h q = at-own 8 r e refl f h (rw (getD-drop i l 1 0) q)
+
+  pub at-keys : (r : Read) → kind ≡ 7 → keyed p ≡ true → 4 < length l - i → r ≡ ofKeys p (getD l (i + 1) 0) (getD l (i + 2) 0) (getD l (i + 3) 0) (getD l (i + 4) 0) → r ≡ front p (drop i l)
+  at-keys r e f h q = at-own 7 r e refl f h (rw (getD-drop i l 1 0, getD-drop i l 2 0, getD-drop i l 3 0, getD-drop i l 4 0) q)
 
 -- The part of a recording from a place on, as code lends it.
 pub part-from : (from : ℕ) (l : List ℕ) → take (length l - from) (drop from l) ≡ drop from l

@@ -1,24 +1,7 @@
-// The kinds: which are listed, and which a part has.
+// Which kinds only some parts have.
 use terms::Part;
 ghost use mathlib.Core.Path.{_≡_};
-ghost use Rattle.recording.specs.Record.{listed, keyed, switched, belongs};
-
-pub fn is_listed(kind: u8) -> bool
-    ensures { λ r. ⌜ r ≡ listed kind ⌝ }
-{
-    0 < kind && kind < 10
-}
-
-pub fn is_of(part: Part, kind: u8) -> bool
-    ensures { λ r. ⌜ r ≡ belongs part kind ⌝ }
-{
-    match kind {
-        7 => has_keys(part),
-        8 => has_switches(part),
-        9 => has_keys(part),
-        _ => true,
-    }
-}
+ghost use Rattle.recording.specs.Record.{keyed, switched};
 
 pub fn has_keys(part: Part) -> bool
     ensures { λ r. ⌜ r ≡ keyed part ⌝ }

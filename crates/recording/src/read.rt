@@ -1,17 +1,17 @@
 // One record.
 use crate::bodies::bits_allowed;
-use crate::bodies::body_of;
 use crate::bodies::fourth_allowed;
 use crate::bodies::switches_allowed;
-use crate::kinds::is_listed;
-use crate::kinds::is_of;
+use crate::kinds::has_keys;
+use crate::kinds::has_switches;
 use terms::Event;
 use terms::Part;
 use terms::Place;
 ghost use mathlib.Core.Path.{_≡_};
-ghost use Prim.Native.Nat.{_+_, _<_};
-ghost use lib.ListN.{length, drop};
-ghost use Rattle.recording.specs.Record.{bodyOf, ofBody, ofUnfinished, ofSwitches, ofKeys, front};
+ghost use Prim.Native.Nat.{_<_};
+ghost use Rattle.terms.specs.declared.Part.{Part};
+ghost use lib.ListN.{length, getD, drop};
+ghost use Rattle.recording.specs.Record.{front};
 
 // Why there is no record: numbers 5, 6, 7 and 8.
 pub enum Refusal {
@@ -31,47 +31,48 @@ pub enum Read {
     Refused(Refusal),
 }
 
-// The record that starts at a place within the bytes.
+// The record that starts at a place within the bytes. Its kind is looked at once: an arm has the tests of its kind, in paper 01's order, and its length.
 pub fn record_at(part: Part, bytes: &[u8], at: Place) -> Read
     requires { ⌜ at .0 < length (now bytes) ⌝ }
     ensures { λ r. ⌜ r ≡ front part (drop (at .0) (now (bytes .entry))) ⌝ }
 {
     let i = at.0;
     let kind = bytes[i];
-    if !is_listed(kind) {
-        return Read::Refused(Refusal::Unlisted);
-    }
-    if !is_of(part, kind) {
-        return Read::Refused(Refusal::Foreign);
-    }
-    let body = body_of(kind) as usize;
-    if bytes.len() - i <= body {
-        return Read::Refused(Refusal::CutShort);
-    }
-    read_body(part, kind, bytes, i)
-}
-
-// The whole body is there.
-fn read_body(part: Part, kind: u8, bytes: &[u8], i: usize) -> Read
-    requires { ⌜ i + bodyOf kind < length (now bytes) ⌝ }
-    ensures { λ r. ⌜ r ≡ ofBody part kind (drop i (now (bytes .entry))) ⌝ }
-{
     match kind {
         1 => Read::Is(Event::Power, 1),
         2 => Read::Is(Event::Falls, 1),
-        3 => Read::Is(Event::ByteIn(bytes[i + 1]), 2),
+        3 => {
+            if bytes.len() - i < 2 {
+                Read::Refused(Refusal::CutShort)
+            } else {
+                Read::Is(Event::ByteIn(bytes[i + 1]), 2)
+            }
+        }
         4 => Read::Is(Event::Rises, 1),
         5 => Read::Is(Event::Gap, 1),
-        6 => unfinished(bytes[i + 1]),
-        7 => keys(part, bytes[i + 1], bytes[i + 2], bytes[i + 3], bytes[i + 4]),
-        8 => switches(bytes[i + 1]),
-        _ => Read::Is(Event::ByteOut, 1),
+        6 => unfinished(bytes, i),
+        7 => keys(part, bytes, i),
+        8 => switches(part, bytes, i),
+        9 => {
+            if has_keys(part) {
+                Read::Is(Event::ByteOut, 1)
+            } else {
+                Read::Refused(Refusal::Foreign)
+            }
+        }
+        _ => Read::Refused(Refusal::Unlisted),
     }
 }
 
-fn unfinished(bits: u8) -> Read
-    ensures { λ r. ⌜ r ≡ ofUnfinished bits ⌝ }
+// A record of 06, on any part.
+fn unfinished(bytes: &[u8], i: usize) -> Read
+    requires { ⌜ (i < length (now bytes)) × (getD (now bytes) i 0 ≡ 6) ⌝ }
+    ensures { λ r. ⌜ ((p : Part) → r ≡ front p (drop i (now (bytes .entry)))) ⌝ }
 {
+    if bytes.len() - i < 2 {
+        return Read::Refused(Refusal::CutShort);
+    }
+    let bits = bytes[i + 1];
     if bits_allowed(bits) {
         Read::Is(Event::Unfinished(bits), 2)
     } else {
@@ -79,21 +80,42 @@ fn unfinished(bits: u8) -> Read
     }
 }
 
-fn switches(value: u8) -> Read
-    ensures { λ r. ⌜ r ≡ ofSwitches value ⌝ }
+// A record of 07.
+fn keys(part: Part, bytes: &[u8], i: usize) -> Read
+    requires { ⌜ (i < length (now bytes)) × (getD (now bytes) i 0 ≡ 7) ⌝ }
+    ensures { λ r. ⌜ r ≡ front part (drop i (now (bytes .entry))) ⌝ }
 {
-    if switches_allowed(value) {
-        Read::Is(Event::Switches(value), 2)
+    if !has_keys(part) {
+        return Read::Refused(Refusal::Foreign);
+    }
+    if bytes.len() - i < 5 {
+        return Read::Refused(Refusal::CutShort);
+    }
+    let fourth = bytes[i + 4];
+    if fourth_allowed(part, fourth) {
+        Read::Is(
+            Event::Keys(bytes[i + 1], bytes[i + 2], bytes[i + 3], fourth),
+            5,
+        )
     } else {
         Read::Refused(Refusal::Forbidden)
     }
 }
 
-fn keys(part: Part, k0: u8, k1: u8, k2: u8, k3: u8) -> Read
-    ensures { λ r. ⌜ r ≡ ofKeys part k0 k1 k2 k3 ⌝ }
+// A record of 08.
+fn switches(part: Part, bytes: &[u8], i: usize) -> Read
+    requires { ⌜ (i < length (now bytes)) × (getD (now bytes) i 0 ≡ 8) ⌝ }
+    ensures { λ r. ⌜ r ≡ front part (drop i (now (bytes .entry))) ⌝ }
 {
-    if fourth_allowed(part, k3) {
-        Read::Is(Event::Keys(k0, k1, k2, k3), 5)
+    if !has_switches(part) {
+        return Read::Refused(Refusal::Foreign);
+    }
+    if bytes.len() - i < 2 {
+        return Read::Refused(Refusal::CutShort);
+    }
+    let value = bytes[i + 1];
+    if switches_allowed(value) {
+        Read::Is(Event::Switches(value), 2)
     } else {
         Read::Refused(Refusal::Forbidden)
     }
