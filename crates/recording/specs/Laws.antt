@@ -1,4 +1,4 @@
--- The kinds that a match of the code does not name, the record at a place, and the part from a place on.
+-- What kinds have by their numbers, the record at a place, and the part from a place on.
 use Prim.Native.Nat.{ℕ, zero, suc, _+_, _-_, _<_, _≤_}
 use native.Mathlib.Nat.{zero-lt-suc}
 use native.Mathlib.Omega.{arith}
@@ -25,6 +25,7 @@ pub other-body : (p : Part) (k : ℕ) (l : List ℕ) → ¬ (k ≡ 1) → ¬ (k 
 other-body p k l one two three four five six seven eight =
     rw (ne-eqb k 6 six, ne-eqb k 8 eight, ne-eqb k 7 seven, ne-eqb k 1 one, ne-eqb k 2 two, ne-eqb k 3 three, ne-eqb k 4 four, ne-eqb k 5 five) refl
 
+-- In two steps, since omega cannot take all nine kinds at once.
 past-six : (k : ℕ) → 0 < k → ¬ (k ≡ 1) → ¬ (k ≡ 2) → ¬ (k ≡ 3) → ¬ (k ≡ 4) → ¬ (k ≡ 5) → ¬ (k ≡ 6) → 7 ≤ k
 past-six k h one two three four five six = omega arith
 
