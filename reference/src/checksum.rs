@@ -1,6 +1,8 @@
 //! One number over everything that a replay gives back, so that two programs can be compared by a single line.
 
 use crate::answer::Answer;
+use crate::bits::Bits;
+use crate::cells::Cells;
 use crate::character_panel::Pt6302;
 use crate::key_panel::{Address, KeyPanel};
 use crate::knowledge::Knowledge;
@@ -27,9 +29,14 @@ impl Checksum {
         self.take(fact.map_or(UNKNOWN_CODE, u64::from));
     }
 
-    fn take_facts(&mut self, facts: impl IntoIterator<Item = Option<u8>>) {
-        for fact in facts {
-            self.take_fact(fact);
+    /// The marks count as well, so that knowing a bit to be 0 is not the same as not knowing it.
+    fn take_bits<const ALL: u8>(&mut self, bits: Bits<ALL>) {
+        self.take(u64::from(bits.code()));
+    }
+
+    fn take_cells<const N: usize, const ALL: u8>(&mut self, cells: &Cells<N, ALL>) {
+        for cell in cells.iter() {
+            self.take_bits(cell);
         }
     }
 
@@ -52,7 +59,7 @@ impl Checksum {
         panel: &KeyPanel<CELLS, KEYS>,
         has_switches: bool,
     ) {
-        self.take_facts(panel.cells.iter());
+        self.take_cells(&panel.cells);
         self.take(match panel.address {
             Some(Address::Cell(at)) => u64::from(at),
             Some(Address::Invalid) => INVALID_CODE,
@@ -63,8 +70,10 @@ impl Checksum {
         self.take_fact(panel.mode);
         self.take_fact(panel.dimming);
         self.take_fact(panel.display.map(|display| display as u8));
-        self.take_fact(panel.led);
-        self.take_facts(panel.keys);
+        self.take_bits(panel.led);
+        for key in panel.keys {
+            self.take_fact(key);
+        }
         if has_switches {
             self.take_fact(panel.switches);
         }
@@ -73,14 +82,14 @@ impl Checksum {
     }
 
     fn take_character_panel(&mut self, panel: &Pt6302) {
-        self.take_facts(panel.dcram.iter());
-        self.take_facts(panel.cgram.iter());
-        self.take_facts(panel.adram.iter());
+        self.take_cells(&panel.dcram);
+        self.take_cells(&panel.cgram);
+        self.take_cells(&panel.adram);
         self.take_fact(panel.dcram_address);
         self.take_fact(panel.cgram_address);
         self.take_fact(panel.adram_address);
         self.take_fact(panel.column);
-        self.take_fact(panel.port);
+        self.take_bits(panel.port);
         self.take_fact(panel.duty);
         self.take_fact(panel.digits);
         self.take_fact(panel.lights.map(|lights| lights as u8));

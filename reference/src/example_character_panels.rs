@@ -1,6 +1,5 @@
 //! What the words of a line of `panel_examples` tell of a PT6302.
 
-use crate::cells::Cells;
 use crate::character_panel::{Lights, Position, Pt6302};
 use crate::example_lines::{Saying, Told};
 
@@ -47,14 +46,14 @@ pub fn everything() -> Told {
 /// The knowledge, or none where a fact is said to be what it cannot be held as here.
 pub fn panel(told: &Told) -> Option<Pt6302> {
     Some(Pt6302 {
-        dcram: Cells::from_facts(told.row('t')?),
-        cgram: Cells::from_facts(told.row('s')?),
-        adram: Cells::from_facts(told.row('m')?),
+        dcram: told.cells('t'),
+        cgram: told.cells('s'),
+        adram: told.cells('m'),
         dcram_address: told.byte('d', 0)?,
         cgram_address: told.byte('g', 0)?,
         adram_address: told.byte('a', 0)?,
         column: told.byte('c', 0)?,
-        port: told.byte('o', 0)?,
+        port: told.bits('o', 0),
         duty: told.byte('b', 0)?,
         digits: told.byte('w', 0)?,
         lights: told.one_of('l', &LIGHTS)?,

@@ -1,6 +1,5 @@
 //! What the words of a line of `panel_examples` tell of a PT6312 or PT6315.
 
-use crate::cells::Cells;
 use crate::example_lines::{Saying, Told, Word};
 use crate::key_panel::{Address, DataMode, Display, KeyPanel, Position, Stepping};
 
@@ -61,14 +60,14 @@ pub fn tell(told: &mut Told, word: &Word) {
 /// The knowledge, or none where a fact of the part is said to be what it cannot be held as here.
 pub fn panel<const CELLS: usize, const KEYS: usize>(told: &Told) -> Option<KeyPanel<CELLS, KEYS>> {
     Some(KeyPanel {
-        cells: Cells::from_facts(told.row('c')?),
+        cells: told.cells('c'),
         address: address(told)?,
         data_mode: told.one_of('d', &DATA_MODES)?,
         stepping: told.one_of('f', &STEPPINGS)?,
         mode: told.byte('m', 0)?,
         dimming: told.byte('b', 0)?,
         display: told.one_of('o', &DISPLAYS)?,
-        led: told.byte('l', 0)?,
+        led: told.bits('l', 0),
         keys: told.row('k')?,
         switches: told.byte('s', 0)?,
         read_count: told.byte('r', 0)?,

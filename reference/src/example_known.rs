@@ -1,6 +1,8 @@
 //! What is known of a panel, in one row as `panel_examples` writes it: memory and keys, and single facts where they are
 //! known.
 
+use crate::bits::Bits;
+use crate::cells::Cells;
 use crate::character_panel::{self, Lights, Pt6302};
 use crate::key_panel::{Address, DataMode, Display, KeyPanel, Position, Stepping};
 use crate::knowledge::Knowledge;
@@ -29,10 +31,10 @@ fn key_row<const CELLS: usize, const KEYS: usize>(
         panel.mode.map(|mode| format!("mode {mode}")),
         panel.dimming.map(|dimming| format!("dimming {dimming}")),
         panel.display.map(display_in_words),
-        panel.led.map(|led| format!("LED {led}")),
+        bits_if_known("LED", panel.led),
         switches.map(|switches| format!("switches {switches}")),
     ];
-    let cells = runs(panel.cells.iter());
+    let cells = runs(&panel.cells);
     format!("    cells{cells}, keys{keys}{}", those_known(&facts))
 }
 
@@ -44,14 +46,14 @@ fn character_row(panel: &Pt6302) -> String {
         panel.cgram_address.map(|at| address("CGRAM", at)),
         panel.column.map(|column| format!("column {column}")),
         panel.adram_address.map(|at| address("ADRAM", at)),
-        panel.port.map(|port| format!("port {port}")),
+        bits_if_known("port", panel.port),
         panel.duty.map(|duty| format!("duty {duty}")),
         panel.digits.map(|digits| format!("digits {digits}")),
         panel.lights.map(lights_in_words),
     ];
-    let dcram = runs(panel.dcram.iter());
-    let cgram = runs(panel.cgram.iter());
-    let adram = runs(panel.adram.iter());
+    let dcram = runs(&panel.dcram);
+    let cgram = runs(&panel.cgram);
+    let adram = runs(&panel.adram);
     let facts = those_known(&facts);
     format!("    DCRAM{dcram}, CGRAM{cgram}, ADRAM{adram}{facts}")
 }
@@ -62,19 +64,40 @@ fn those_known(facts: &[Option<String>]) -> String {
 }
 
 /// Neighbours that are alike stand as one, such as `00-06=6E`.
-fn runs(cells: impl Iterator<Item = Option<u8>>) -> String {
-    let cells: Vec<_> = cells.collect();
+fn runs<const N: usize, const ALL: u8>(cells: &Cells<N, ALL>) -> String {
+    let cells: Vec<_> = cells.iter().collect();
     let mut text = String::new();
     let mut first = 0;
     for run in cells.chunk_by(|one, next| one == next) {
         let last = first + run.len() - 1;
         text += &match run.len() {
-            1 => format!(" {first:02X}={}", in_hex(run[0])),
-            _ => format!(" {first:02X}-{last:02X}={}", in_hex(run[0])),
+            1 => format!(" {first:02X}={}", bits_in_words(run[0])),
+            _ => format!(" {first:02X}-{last:02X}={}", bits_in_words(run[0])),
         };
         first = last + 1;
     }
     text
+}
+
+/// Where only some bits are known, values and marks stand as in a word that says so, and so does what is not in range.
+fn bits_in_words<const ALL: u8>(bits: Bits<ALL>) -> String {
+    match bits.whole() {
+        None if bits != Bits::UNKNOWN => values_and_marks(bits),
+        whole => in_hex(whole),
+    }
+}
+
+/// A single fact of bits, whose value is no address and so stands in decimal.
+fn bits_if_known<const ALL: u8>(name: &str, bits: Bits<ALL>) -> Option<String> {
+    match bits.whole() {
+        Some(value) => Some(format!("{name} {value}")),
+        None if bits == Bits::UNKNOWN => None,
+        None => Some(format!("{name} {}", values_and_marks(bits))),
+    }
+}
+
+fn values_and_marks<const ALL: u8>(bits: Bits<ALL>) -> String {
+    format!("{:02X}/{:02X}", bits.values, bits.known)
 }
 
 fn address_in_words(address: Address) -> String {

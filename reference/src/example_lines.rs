@@ -5,6 +5,8 @@
 //! none; and bytes. All numbers are in hex.
 
 use crate::answer::Answer;
+use crate::bits::Bits;
+use crate::cells::Cells;
 use std::collections::BTreeMap;
 
 pub struct Line {
@@ -56,16 +58,20 @@ pub struct Word {
 
 #[derive(Clone, Copy)]
 pub enum Saying {
+    /// Of a fact that is known bit by bit, every bit is known.
     Known(u8),
+    /// The values of bits, and a mark for each that is known.
+    Bits(u8, u8),
     Unknown,
     /// The address past the last cell.
     Invalid,
-    /// Neither known nor unknown.
+    /// Neither known nor unknown. Bits are then unknown, and yet there is a 1 among them.
     Neither,
 }
 
 impl Word {
-    /// A word has letters, a number or none, and `?`, `!` or `=` and a value or none.
+    /// A word has letters, a number or none, and `?`, `!` or `=` and a value or none. Behind the values of bits there
+    /// may be marks, such as `=12/F6`.
     fn read(word: &str) -> Self {
         let rest = word.trim_start_matches(|letter: char| letter.is_ascii_lowercase());
         let mark = rest.find(['?', '!', '=']).unwrap_or(rest.len());
@@ -123,7 +129,23 @@ impl Told {
             Saying::Known(value) => Some(Some(value)),
             Saying::Unknown => Some(None),
             Saying::Invalid | Saying::Neither => None,
+            Saying::Bits(..) => panic!("a fact without bits has marks: {name}"),
         }
+    }
+
+    /// What is said of bits can always be held, though it may be out of range.
+    pub fn bits<const ALL: u8>(&self, name: char, at: usize) -> Bits<ALL> {
+        match self.saying(name, at) {
+            Saying::Known(values) => Bits::all_known(values),
+            Saying::Bits(values, known) => Bits::new(values, known),
+            Saying::Unknown => Bits::UNKNOWN,
+            Saying::Neither => Bits::new(0x01, 0x00),
+            Saying::Invalid => panic!("only an address can be invalid, and not {name}"),
+        }
+    }
+
+    pub fn cells<const N: usize, const ALL: u8>(&self, name: char) -> Cells<N, ALL> {
+        Cells::from_facts(std::array::from_fn(|at| self.bits(name, at)))
     }
 
     pub fn row<const N: usize>(&self, name: char) -> Option<[Option<u8>; N]> {
@@ -144,10 +166,15 @@ impl Told {
 }
 
 fn saying_in(text: &str) -> Saying {
-    match text.strip_prefix('=') {
-        Some(value) => Saying::Known(byte_in(value)),
-        None if text == "!" => Saying::Neither,
-        None => Saying::Unknown,
+    let Some(value) = text.strip_prefix('=') else {
+        return match text {
+            "!" => Saying::Neither,
+            _ => Saying::Unknown,
+        };
+    };
+    match value.split_once('/') {
+        Some((values, marks)) => Saying::Bits(byte_in(values), byte_in(marks)),
+        None => Saying::Known(byte_in(value)),
     }
 }
 

@@ -8,6 +8,7 @@ use crate::answer::Answer;
 use crate::example_halves::Halves;
 use crate::example_known::known;
 use crate::example_lines::{bytes_in_words, Line, Saying};
+use crate::knowledge::Knowledge;
 use crate::show::answer_in_words;
 use crate::tail::{tail_of, Tail};
 use crate::{example_character_panels, example_key_panels};
@@ -28,10 +29,21 @@ pub fn written(line: &str) -> Vec<String> {
     rows
 }
 
-/// The answer to the replay, and the tail.
-pub fn outcome(line: &Line) -> (Answer, Tail) {
-    let (answer, _) = replayed(line);
-    (answer, tail_of(line.part, &line.bytes))
+/// What a line comes to.
+pub struct Outcome {
+    pub replay: Answer,
+    /// Behind the replay, as far as the line names a part.
+    pub knowledge: Option<Knowledge>,
+    pub tail: Tail,
+}
+
+pub fn outcome(line: &Line) -> Outcome {
+    let (replay, mut halves) = replayed(line);
+    Outcome {
+        replay,
+        knowledge: halves.of_part().copied(),
+        tail: tail_of(line.part, &line.bytes),
+    }
 }
 
 /// The answer, and what is known behind it.

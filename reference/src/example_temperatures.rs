@@ -40,6 +40,14 @@ impl Example {
         }
     }
 
+    /// None where the words say what no fact here can hold, or where the part has no field.
+    pub fn knowledge(&self) -> Option<Knowledge> {
+        match self.part {
+            PT6302 => panel(&self.told).map(Knowledge::Pt6302),
+            _ => None,
+        }
+    }
+
     /// Where the words say what no fact here can hold, the knowledge is as little in range as any; but the part
     /// comes first. What is known of a part that has no field does not matter.
     pub fn temperature(&self) -> Temperature {
@@ -47,8 +55,8 @@ impl Example {
             let no_field = Knowledge::unknown(self.part);
             return temperature(no_field.as_ref(), self.start);
         }
-        match panel(&self.told) {
-            Some(panel) => temperature(Some(&Knowledge::Pt6302(panel)), self.start),
+        match self.knowledge() {
+            Some(knowledge) => temperature(Some(&knowledge), self.start),
             None => Temperature::refused(Answer::refused(Answer::KNOWLEDGE_OUT_OF_RANGE, 0)),
         }
     }

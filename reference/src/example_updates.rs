@@ -48,20 +48,23 @@ impl Example {
         }
     }
 
+    /// None where the words say what no fact here can hold, or where the part has no update.
+    pub fn knowledge(&self) -> Option<Knowledge> {
+        match self.part {
+            PT6312 => panel(&self.told).map(Knowledge::Pt6312),
+            PT6315 => panel(&self.told).map(Knowledge::Pt6315),
+            _ => None,
+        }
+    }
+
     /// Where the words say what no fact here can hold, the knowledge is as little in range as any; but the part
     /// comes first.
     pub fn update(&self) -> Update {
-        let knowledge = match self.part {
-            PT6312 => panel(&self.told).map(Knowledge::Pt6312),
-            PT6315 => panel(&self.told).map(Knowledge::Pt6315),
-            other => {
-                let no_key_panel = Knowledge::unknown(other);
-                return update(no_key_panel.as_ref(), &self.wanted, self.room);
-            }
-        };
-        match knowledge {
-            Some(knowledge) => update(Some(&knowledge), &self.wanted, self.room),
-            None => Update::refused(Answer::KNOWLEDGE_OUT_OF_RANGE),
+        let no_key_panel = Knowledge::unknown(self.part);
+        match (self.part, self.knowledge()) {
+            (PT6312 | PT6315, None) => Update::refused(Answer::KNOWLEDGE_OUT_OF_RANGE),
+            (PT6312 | PT6315, known) => update(known.as_ref(), &self.wanted, self.room),
+            _ => update(no_key_panel.as_ref(), &self.wanted, self.room),
         }
     }
 

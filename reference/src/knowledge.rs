@@ -29,6 +29,24 @@ impl Knowledge {
         }
     }
 
+    /// Whether there is a cell, or the LED or the port, of which some bits are known and others are not.
+    pub fn is_partly_known(&self) -> bool {
+        match self {
+            Knowledge::Pt6302(panel) => {
+                let rams = panel.dcram.is_partly_known()
+                    || panel.cgram.is_partly_known()
+                    || panel.adram.is_partly_known();
+                rams || panel.port.is_partly_known()
+            }
+            Knowledge::Pt6312(panel) => {
+                panel.cells.is_partly_known() || panel.led.is_partly_known()
+            }
+            Knowledge::Pt6315(panel) => {
+                panel.cells.is_partly_known() || panel.led.is_partly_known()
+            }
+        }
+    }
+
     /// The part is looked at here and nowhere further in.
     pub fn replay(&mut self, recording: &[u8], start: usize) -> Answer {
         match self {

@@ -1,14 +1,15 @@
 //! A second reading of paper 01 by hand: what a recording of a display panel's wires tells about the panel's chip.
 //!
-//! Knowledge holds each fact of a chip as known or unknown.
-//! A replay moves it in place, so that after each event a fact is known exactly when every chip that fits the
-//! earlier knowledge comes out of the event with the same value.
+//! Knowledge holds each fact of a chip as known or unknown, and memory, LED and port bit by bit (M-107).
+//! A replay moves it in place, so that after each event a fact, or such a bit, is known exactly when every chip that
+//! fits the earlier knowledge comes out of the event with the same value.
 //!
 //! An update, which is paper 02's (M-102), sends a panel only those wanted cells that it is not known to have.
 //! A temperature (M-103) is what five cells in a row are known to show.
 //! A recording may come in packets (M-100), and its tail is what stands behind its last gap.
 
 pub mod answer;
+pub mod bits;
 pub mod cells;
 pub mod character_panel;
 pub mod checksum;
@@ -37,6 +38,7 @@ pub mod show;
 pub mod tail;
 pub mod temperature;
 pub mod thermo_input;
+pub mod trial_bits;
 pub mod trial_field_recordings;
 pub mod trial_fields;
 pub mod trial_inputs;

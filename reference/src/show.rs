@@ -42,17 +42,18 @@ pub fn field_in_words(field: Field) -> String {
     }
 }
 
+/// A cell of which any bit is unknown is shown as unknown.
 fn memory(knowledge: &Knowledge) -> String {
     match knowledge {
-        Knowledge::Pt6312(panel) => by_digit(panel.cells.iter().collect(), 2),
-        Knowledge::Pt6315(panel) => by_digit(panel.cells.iter().collect(), 3),
+        Knowledge::Pt6312(panel) => by_digit(panel.cells.wholes().collect(), 2),
+        Knowledge::Pt6315(panel) => by_digit(panel.cells.wholes().collect(), 3),
         Knowledge::Pt6302(panel) => {
-            let columns: Vec<_> = panel.cgram.iter().collect();
-            let mut text = line("D", panel.dcram.iter());
+            let columns: Vec<_> = panel.cgram.wholes().collect();
+            let mut text = line("D", panel.dcram.wholes());
             for (number, character) in columns.chunks(COLUMNS as usize).enumerate() {
                 text += &line(&format!("G{number}"), character.iter().copied());
             }
-            text + &line("A", panel.adram.iter())
+            text + &line("A", panel.adram.wholes())
         }
     }
 }

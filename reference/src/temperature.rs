@@ -106,10 +106,11 @@ fn digits_in_use(code: u8) -> u8 {
     }
 }
 
+/// None where a bit of any cell is unknown.
 fn known_cells(panel: &Pt6302, start: u8) -> Option<[u8; FIELD]> {
     let mut cells = [0; FIELD];
     for (cell, at) in cells.iter_mut().zip(usize::from(start)..) {
-        *cell = panel.dcram.get(at)?;
+        *cell = panel.dcram.get(at).whole()?;
     }
     Some(cells)
 }

@@ -4,11 +4,12 @@ use crate::damage::cut_record;
 use crate::example_lines::bytes_in_words;
 use crate::knowledge::{PT6302, PT6312, PT6315};
 use crate::random::Random;
+use crate::trial_bits::{any_bits_word, bad_bits_word};
 
 /// A line with a part byte in the making.
 pub struct Opening {
     part: u8,
-    words: Vec<&'static str>,
+    words: Vec<String>,
     unfinished: Vec<u8>,
     /// What the unfinished record lacks, so that the packets can go on with it.
     pub lacking: Vec<u8>,
@@ -60,13 +61,14 @@ impl Opening {
 
     /// Makes it what is not good, whatever it was.
     fn spoil(&mut self, random: &mut Random) {
-        match random.below(4) {
-            0 => self.words.push(out_of_range(self.part, random)),
-            1 => {
+        match random.below(5) {
+            0 => self.words.push(out_of_range(self.part, random).into()),
+            1 => self.words.push(bad_bits_word(self.part, random)),
+            2 => {
                 self.unfinished = random.pick(NOT_CUT).to_vec();
                 self.total = Some(any_total(random).max(4));
             }
-            2 => {
+            3 => {
                 self.unfinished = vec![0x07, 0x12, 0x34];
                 self.total = Some(random.below(3) as u32);
             }
@@ -121,18 +123,22 @@ fn any_total(random: &mut Random) -> u32 {
     }
 }
 
-/// Everything, nothing, or either but for some facts that the next bytes lean on.
-fn any_knowledge(part: u8, random: &mut Random) -> Vec<&'static str> {
+/// Everything, nothing, or either but for some facts that the next bytes lean on, and for some bits.
+fn any_knowledge(part: u8, random: &mut Random) -> Vec<String> {
     let facts: &[&str] = match part {
         PT6302 => &CHARACTER_FACTS,
         _ => &KEY_FACTS,
     };
-    let mut words = Vec::new();
+    let mut words: Vec<String> = Vec::new();
     if random.once_in(3) {
-        words.push("nothing");
+        words.push("nothing".into());
     }
     for _ in 0..random.below(5).saturating_sub(1) {
-        words.push(random.pick(facts));
+        words.push(random.pick(facts).into());
+    }
+    if random.once_in(2) {
+        let count = 1 + random.below(3);
+        words.extend((0..count).map(|_| any_bits_word(part, random)));
     }
     words
 }

@@ -1,9 +1,11 @@
 //! Lines of the section `recordings`, on which a program is compared with the replay and the tail finder here.
 
 use crate::damage::{bad_body, bad_record};
+use crate::example_key_panels::USUAL_CELL;
 use crate::example_lines::{bytes_in, bytes_in_words};
+use crate::knowledge::PT6315;
 use crate::random::Random;
-use crate::recording::record_starts;
+use crate::recording::{record_starts, Recording};
 use crate::trial_short_recordings::{any_part, short_recording};
 
 /// No line asks for a longer recording; this is one byte more than is taken.
@@ -18,10 +20,25 @@ pub fn trial_recording(seed: u64, number: usize) -> String {
     let recording = if random.once_in(80) {
         long_recording(random)
     } else {
-        bytes_in_words(&short_recording(part, random))
+        let recording = short_recording(part, random);
+        bytes_in_words(&[recording, lost_address(part, random)].concat())
     };
     let start = any_start(&bytes_in(&recording), random);
     format!("{part:02X}{known}{start}{recording}")
+}
+
+/// What makes a PT6315 known in part, if it is known at all: behind data setting 11 a byte moves only some chips on,
+/// and the next one may go anywhere. Both are but a bit away from what every cell is known to hold where all is known.
+/// No words of this section say single bits, and on the other parts nothing but a gap loses the address.
+fn lost_address(part: u8, random: &mut Random) -> Vec<u8> {
+    if part != PT6315 || !random.once_in(3) {
+        return Vec::new();
+    }
+    let mut near = || USUAL_CELL ^ 1 << random.below(8);
+    let mut recording = Recording::up_to(20);
+    recording.strobe(0x43, &[near()]);
+    recording.strobe(0x40, &[near()]);
+    recording.into_bytes()
 }
 
 /// Words on what is known before, and on what cannot be known so; half of the lines know nothing.

@@ -21,7 +21,7 @@ pub fn any_recording(part: u8, length: usize, random: &mut Random) -> Vec<u8> {
 struct Talk {
     part: u8,
     recording: Recording,
-    /// Few different bytes make it likely that a write finds its own value already there.
+    /// Few different bytes make it likely that a write finds its own value already there, or most bits of it.
     pool: Vec<u8>,
     /// One step in so many is a gap.
     gap_once_in: usize,
@@ -29,8 +29,9 @@ struct Talk {
 
 impl Talk {
     fn new(part: u8, length: usize, random: &mut Random) -> Self {
-        let pool = match random.below(4) {
+        let pool = match random.below(5) {
             0 => (0..=255).collect(),
+            4 => a_bit_apart(random),
             size => (0..size).map(|_| random.byte()).collect(),
         };
         let mut recording = Recording::up_to(length);
@@ -115,7 +116,7 @@ impl Talk {
             .strobe(random.pick(&[0x43, 0x43, 0x47]), &[byte]);
     }
 
-    /// Half of the runs repeat one byte, because two different ones at an unknown address forget every cell.
+    /// Half of the runs repeat one byte, because different ones at an unknown address soon forget every bit.
     fn data(&mut self, random: &mut Random) {
         let bytes = match random.below(6) {
             0 => random.below(60),
@@ -173,6 +174,13 @@ impl Talk {
             _ => self.recording.byte_out(),
         }
     }
+}
+
+/// Bytes that cost each other just a bit or two where the address is lost.
+fn a_bit_apart(random: &mut Random) -> Vec<u8> {
+    let byte = random.byte();
+    let (one, other) = (1 << random.below(8), 1 << random.below(8));
+    vec![byte, byte ^ one, byte ^ other]
 }
 
 /// Test mode is left out, since it would forget too much too often.

@@ -1,11 +1,13 @@
 //! Lines of the section `temperatures`, on which a program is compared with the temperature here.
 
+use crate::bits::{Bits, Byte};
 use crate::knowledge::PT6302;
 use crate::random::Random;
 use crate::temperature::FIELD;
+use crate::trial_bits::{any_bits_word, bad_bits_word, said_of, some_bits_of};
 use crate::trial_fields::any_field;
 
-/// A known byte, or unknown.
+/// A known number, or unknown.
 type Standing = Option<u8>;
 
 const CELLS: usize = 16;
@@ -26,8 +28,10 @@ pub fn trial_temperature(seed: u64, number: usize) -> String {
         line.say("width", Some(4), digits, random);
         line.say("lights", Some(2), any_lights(random), random);
         line.say_cells(&cells, random);
-        if random.once_in(12) {
-            line.words.push(at_the_ranges(random));
+        match random.below(24) {
+            0 | 1 => line.words.push(at_the_ranges(random)),
+            2 => line.words.push(bad_bits_word(PT6302, random)),
+            _ => {}
         }
         shuffle(&mut line.words, random);
     }
@@ -68,11 +72,19 @@ fn any_lights(random: &mut Random) -> Standing {
     }
 }
 
-fn any_cells(random: &mut Random) -> [Standing; FIELD] {
-    let mut cells = any_field(random).map(Some);
-    match random.below(10) {
-        0 => cells[random.below(FIELD)] = None,
-        1 => cells = cells.map(|cell| cell.filter(|_| random.once_in(2))),
+fn any_cells(random: &mut Random) -> [Byte; FIELD] {
+    let field = any_field(random);
+    let mut cells = field.map(Bits::all_known);
+    let at = random.below(FIELD);
+    match random.below(12) {
+        0 => cells[at] = Bits::UNKNOWN,
+        1 => cells[at] = some_bits_of(field[at], random),
+        2 => {
+            cells = field.map(|byte| match random.below(3) {
+                0 => some_bits_of(byte, random),
+                _ => Bits::all_known(byte),
+            });
+        }
         _ => {}
     }
     cells
@@ -101,6 +113,11 @@ fn at_the_ranges(random: &mut Random) -> String {
         "column=05",
         "out=03",
         "out=04",
+        "out=00/04",
+        "text0F=2D/FE",
+        "text0F=2C/FE",
+        "shape27=00/FF",
+        "mark0F=02/02",
         "bright=07",
         "bright=08",
         "width=07",
@@ -152,6 +169,8 @@ impl Draft {
             "every=2D",
             "led=09",
             "led=10",
+            "led=01/0E",
+            "every=2C/FE",
             "position=04",
         ];
         for _ in 0..random.below(3) {
@@ -164,6 +183,17 @@ impl Draft {
         let anyway = if self.nothing { None } else { usual };
         if standing != anyway || random.once_in(4) {
             self.words.push(name.to_string() + &said(standing));
+        }
+    }
+
+    /// The same of a cell.
+    fn say_cell(&mut self, at: usize, cell: Byte, random: &mut Random) {
+        let anyway = match self.nothing {
+            true => Bits::UNKNOWN,
+            false => Bits::all_known(0x6E),
+        };
+        if cell != anyway || random.once_in(4) {
+            self.words.push(format!("text{at:02X}{}", said_of(cell)));
         }
     }
 
@@ -190,16 +220,19 @@ impl Draft {
         }
         for at in [self.start.wrapping_sub(1), self.start + FIELD] {
             if at < CELLS && random.once_in(4) {
-                let standing = random.pick(&[Some(0x2D), Some(0x30), None]);
-                self.words.push(format!("text{at:02X}{}", said(standing)));
+                let said = random.pick(&["=2D", "=30", "=2C/FE", "=00/02", "?"]);
+                self.words.push(format!("text{at:02X}{said}"));
             }
+        }
+        if random.once_in(12) {
+            self.words.push(any_bits_word(PT6302, random));
         }
     }
 
-    /// The first cells are given as bytes, up to any that is unknown, and the others in words.
+    /// The first cells are given as bytes, up to any with an unknown bit, and the others in words.
     /// What words say of a cell that has a byte does not count.
-    fn say_cells(&mut self, cells: &[Standing; FIELD], random: &mut Random) {
-        let known = cells.iter().map_while(|&cell| cell);
+    fn say_cells(&mut self, cells: &[Byte; FIELD], random: &mut Random) {
+        let known = cells.iter().map_while(|cell| cell.whole());
         let most = if random.once_in(4) {
             random.below(FIELD)
         } else {
@@ -210,9 +243,9 @@ impl Draft {
         let in_dcram = (self.start..CELLS).zip(cells).enumerate();
         for (number, (at, &cell)) in in_dcram {
             if number >= given {
-                self.say(&format!("text{at:02X}"), Some(0x6E), cell, random);
+                self.say_cell(at, cell, random);
             } else if random.once_in(20) {
-                let beaten = random.pick(&["?", "!", "=00", "=2D"]);
+                let beaten = random.pick(&["?", "!", "=00", "=2D", "=2C/FE", "=2D/FE"]);
                 self.words.push(format!("text{at:02X}{beaten}"));
             }
         }

@@ -1,9 +1,11 @@
 //! Lines of the section `updates`, on which a program is compared with the update here.
 
+use crate::bits::{Bits, Byte};
 use crate::example_key_panels::USUAL_CELL;
 use crate::example_updates::{Example, MOST_ROOM};
 use crate::knowledge::{PT6302, PT6312, PT6315};
 use crate::random::Random;
+use crate::trial_bits::{any_bits_word, bad_bits_word, said_of, some_bits_of};
 
 /// The line with this number, which depends on nothing but the seed and the number.
 pub fn trial_update(seed: u64, number: usize) -> String {
@@ -62,6 +64,8 @@ fn any_bytes(random: &mut Random, most: usize) -> Vec<u8> {
 fn character_words(random: &mut Random) -> Vec<String> {
     let words = [
         "nothing",
+        "text0F=41/FE",
+        "out=00/04",
         "position?",
         "text0F?",
         "text03=41",
@@ -74,23 +78,24 @@ fn character_words(random: &mut Random) -> Vec<String> {
     (0..count).map(|_| random.pick(&words).into()).collect()
 }
 
-/// A known byte, or unknown.
+/// A known number, or unknown.
 type Standing = Option<u8>;
 
 /// What is known of the cells before any single cell is spoken of.
 #[derive(Clone, Copy)]
 enum Base {
     Usual,
-    Every(Standing),
+    Every(Byte),
     Nothing,
 }
 
 impl Base {
     fn any(random: &mut Random) -> Self {
         match random.below(9) {
-            0 | 1 => Base::Every(Some(random.byte())),
-            2 => Base::Every(None),
+            0 | 1 => Base::Every(Bits::all_known(random.byte())),
+            2 => Base::Every(Bits::UNKNOWN),
             3 => Base::Nothing,
+            4 => Base::Every(some_bits_of(random.pick(&[USUAL_CELL, 0x00]), random)),
             _ => Base::Usual,
         }
     }
@@ -98,16 +103,16 @@ impl Base {
     fn word(self) -> Option<String> {
         match self {
             Base::Usual => None,
-            Base::Every(cell) => Some(format!("every{}", said(cell))),
+            Base::Every(cell) => Some(format!("every{}", said_of(cell))),
             Base::Nothing => Some("nothing".into()),
         }
     }
 
-    fn cell(self) -> Standing {
+    fn cell(self) -> Byte {
         match self {
-            Base::Usual => Some(USUAL_CELL),
+            Base::Usual => Bits::all_known(USUAL_CELL),
             Base::Every(cell) => cell,
-            Base::Nothing => None,
+            Base::Nothing => Bits::UNKNOWN,
         }
     }
 
@@ -128,7 +133,7 @@ fn said(standing: Standing) -> String {
 struct Wish {
     part: u8,
     base: Base,
-    known: Vec<Standing>,
+    known: Vec<Byte>,
     /// Those that are given, from 00H on; there may be fewer than cells.
     wanted: Vec<u8>,
 }
@@ -151,7 +156,7 @@ impl Wish {
                 if pattern[at] {
                     other_than(wish, base, random)
                 } else {
-                    Some(wish)
+                    Bits::all_known(wish)
                 }
             })
             .collect();
@@ -167,7 +172,7 @@ impl Wish {
         let mut words: Vec<String> = self.base.word().into_iter().collect();
         for (at, &cell) in self.known.iter().enumerate() {
             if cell != self.base.cell() {
-                words.push(format!("cell{at:02X}{}", said(cell)));
+                words.push(format!("cell{at:02X}{}", said_of(cell)));
             }
         }
         let data_modes = [Some(0), Some(0), Some(0), Some(0), Some(1), Some(2), None];
@@ -183,8 +188,11 @@ impl Wish {
             }
         }
         words.extend(self.beside_the_point(random));
-        if random.once_in(10) {
-            words.push(self.at_the_ranges(random));
+        match random.below(16) {
+            0 => words.push(self.at_the_ranges(random)),
+            1 => words.push(bad_bits_word(self.part, random)),
+            2 | 3 => words.push(any_bits_word(self.part, random)),
+            _ => {}
         }
         words
     }
@@ -240,6 +248,10 @@ impl Wish {
             "on=02",
             "led=10",
             "led=FF",
+            "led=05/0D",
+            "led=00/1F",
+            "cell15=00/7F",
+            "cell15=80/7F",
             "key02!",
             "key03!",
             "switches=10",
@@ -268,18 +280,20 @@ fn any_pattern(cells: usize, random: &mut Random) -> Vec<bool> {
     }
 }
 
-/// Unknown or different, and where it can be what is known anyway.
-fn other_than(wish: u8, base: Base, random: &mut Random) -> Standing {
+/// Unknown or different, in all bits or in some, and where it can be what is known anyway.
+fn other_than(wish: u8, base: Base, random: &mut Random) -> Byte {
     let different = match random.byte() {
         byte if byte == wish => !wish,
         byte => byte,
     };
     let one_bit_off = wish ^ 1 << random.below(8);
-    match random.below(6) {
-        0 => None,
-        1 => Some(different),
-        2 => Some(one_bit_off),
-        _ if base.cell() != Some(wish) => base.cell(),
-        _ => None,
+    match random.below(8) {
+        0 => Bits::UNKNOWN,
+        1 => Bits::all_known(different),
+        2 => Bits::all_known(one_bit_off),
+        3 => some_bits_of(wish, random),
+        4 => some_bits_of(different, random),
+        _ if base.cell() != Bits::all_known(wish) => base.cell(),
+        _ => some_bits_of(wish, random),
     }
 }

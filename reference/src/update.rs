@@ -1,4 +1,5 @@
-//! The update of paper 02 (M-102): of the wanted cells only those are sent that are unknown or different.
+//! The update of paper 02 (M-102): of the wanted cells only those are sent of which a bit is unknown or
+//! different.
 //!
 //! It is written to be read, not to be quick: the cells to send are a set, the runs are found by asking that set.
 
@@ -56,7 +57,7 @@ where
         return Update::refused(Answer::KNOWLEDGE_OUT_OF_RANGE);
     }
     let to_send: BTreeSet<usize> = (0..CELLS)
-        .filter(|&at| panel.cells.get(at) != Some(wanted[at]))
+        .filter(|&at| panel.cells.get(at).whole() != Some(wanted[at]))
         .collect();
     let runs = runs_around(&to_send, CELLS);
     let setting_known = panel.data_mode == Some(DataMode::WriteDisplay)

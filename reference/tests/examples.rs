@@ -1,6 +1,7 @@
 //! The paper's examples, and what the program prints.
 
 use reference::answer::Answer;
+use reference::bits::Bits;
 use reference::character_panel;
 use reference::example_lines::bytes_in;
 use reference::key_panel::{Address, DataMode, Display, Position, Pt6312, Pt6315, Stepping};
@@ -36,7 +37,7 @@ fn p1_a_byte_behind_an_address_is_known() {
     let mut panel = Pt6312::UNKNOWN;
     let answer = replay(&mut panel, &bytes_in("01 02 03 C0 03 5A 04"), 0);
     assert_eq!(answer, Answer::done(7));
-    assert_eq!(known_cells(panel.cells.iter()), [(0, 0x5A)]);
+    assert_eq!(known_cells(panel.cells.wholes()), [(0, 0x5A)]);
     assert_eq!(panel.address, Some(Address::Cell(1)));
 }
 
@@ -44,43 +45,43 @@ fn p1_a_byte_behind_an_address_is_known() {
 fn p2_and_p3_the_last_cell_of_pt6312() {
     let panel: Pt6312 = after_power(&["D5 11 22"]);
     assert_eq!(
-        known_cells(panel.cells.iter()),
+        known_cells(panel.cells.wholes()),
         [(0x00, 0x22), (0x15, 0x11)]
     );
     assert_eq!(panel.address, Some(Address::Cell(1)));
     let panel: Pt6312 = after_power(&["D6 33"]);
-    assert_eq!(known_cells(panel.cells.iter()), []);
+    assert_eq!(known_cells(panel.cells.wholes()), []);
     assert_eq!(panel.address, Some(Address::Invalid));
 }
 
 #[test]
 fn p4_and_p5_the_last_cell_of_pt6315() {
     let panel: Pt6315 = after_power(&["E3 7F"]);
-    assert_eq!(known_cells(panel.cells.iter()), [(0x23, 0x7F)]);
+    assert_eq!(known_cells(panel.cells.wholes()), [(0x23, 0x7F)]);
     assert_eq!(panel.address, Some(Address::Cell(0)));
     let panel: Pt6315 = after_power(&["E4 7F"]);
-    assert_eq!(known_cells(panel.cells.iter()), []);
+    assert_eq!(known_cells(panel.cells.wholes()), []);
     assert_eq!(panel.address, Some(Address::Invalid));
 }
 
 #[test]
 fn m101_a_fixed_address_stays_at_the_last_cell() {
     let panel: Pt6315 = after_power(&["44", "E3 7F 80"]);
-    assert_eq!(known_cells(panel.cells.iter()), [(0x23, 0x80)]);
+    assert_eq!(known_cells(panel.cells.wholes()), [(0x23, 0x80)]);
     assert_eq!(panel.address, Some(Address::Cell(0x23)));
 }
 
 #[test]
 fn p6_a_fixed_address() {
     let panel: Pt6312 = after_power(&["44", "C3 AA BB"]);
-    assert_eq!(known_cells(panel.cells.iter()), [(3, 0xBB)]);
+    assert_eq!(known_cells(panel.cells.wholes()), [(3, 0xBB)]);
     assert_eq!(panel.address, Some(Address::Cell(3)));
 }
 
 #[test]
 fn p7_the_led() {
     let panel: Pt6312 = after_power(&["41 0E"]);
-    assert_eq!(panel.led, Some(14));
+    assert_eq!(panel.led, Bits::all_known(14));
 }
 
 #[test]
@@ -96,12 +97,26 @@ fn p8_the_modes_of_pt6315() {
 fn p9_a_gap_leaves_the_data_mode_unknown() {
     let mut panel = Pt6312::UNKNOWN;
     replay(&mut panel, &bytes_in("05 02 03 C5 03 33 04"), 0);
-    assert_eq!(known_cells(panel.cells.iter()), []);
+    assert_eq!(known_cells(panel.cells.wholes()), []);
     assert_eq!(panel.address, None);
 }
 
 #[test]
 fn p10_a_byte_at_an_unknown_address() {
+    let mut panel = p10();
+    replay(&mut panel, &[0x03, 0x00], 0);
+    // 09 is 0000 1001, so that a chip that stores 00 there differs in bits 0 and 3, and in no other.
+    let cell_07 = Bits::new(0b0000_0000, 0b1111_0110);
+    for at in 0..22 {
+        let zero = Bits::all_known(0);
+        let expected = if at == 7 { cell_07 } else { zero };
+        assert_eq!(panel.cells.get(at), expected);
+    }
+    assert_eq!(panel.address, None);
+}
+
+/// Before its byte: open, write display, increment, address unknown, all cells 00 but cell 07H.
+fn p10() -> Pt6312 {
     let mut panel: Pt6312 = after_power(&[]);
     for at in 0..22 {
         panel.cells.store(at, if at == 7 { 9 } else { 0 });
@@ -110,17 +125,13 @@ fn p10_a_byte_at_an_unknown_address() {
     panel.data_mode = Some(DataMode::WriteDisplay);
     panel.stepping = Some(Stepping::Increment);
     panel.address = None;
-    replay(&mut panel, &[0x03, 0x00], 0);
-    for at in 0..22 {
-        let expected = if at == 7 { None } else { Some(0) };
-        assert_eq!(panel.cells.get(at), expected);
-    }
+    panel
 }
 
 #[test]
 fn p11_the_address_of_pt6302_comes_round() {
     let panel: character_panel::Pt6302 = after_power(&["1F 41 42"]);
-    assert_eq!(known_cells(panel.dcram.iter()), [(0, 0x42), (15, 0x41)]);
+    assert_eq!(known_cells(panel.dcram.wholes()), [(0, 0x42), (15, 0x41)]);
 }
 
 #[test]
@@ -128,7 +139,7 @@ fn p12_an_unfinished_byte() {
     let mut panel = Pt6312::UNKNOWN;
     let answer = replay(&mut panel, &bytes_in("02 03 C0 06 03"), 0);
     assert_eq!(answer, Answer::done(5));
-    assert_eq!(known_cells(panel.cells.iter()), []);
+    assert_eq!(known_cells(panel.cells.wholes()), []);
     let answer = replay(&mut panel, &bytes_in("02 03 C0 06 08"), 0);
     assert_eq!(answer, Answer::refused(Answer::BODY_NOT_ALLOWED, 4));
 }
@@ -179,10 +190,10 @@ fn a_painting_of_pt6302_is_as_long_as_the_paper_says() {
     let Some(Knowledge::Pt6302(panel)) = knowledge else {
         panic!("the part was PT6302");
     };
-    assert_eq!(known_cells(panel.cgram.iter()).len(), 40);
+    assert_eq!(known_cells(panel.cgram.wholes()).len(), 40);
     assert_eq!(
         (panel.port, panel.duty, panel.digits),
-        (Some(2), Some(5), Some(6))
+        (Bits::all_known(2), Some(5), Some(6))
     );
     assert_eq!(panel.lights, Some(character_panel::Lights::On));
 }
@@ -215,6 +226,43 @@ fn the_program_prints_the_three_rams_of_pt6302() {
     assert_eq!(lines[2], "G0: ?? ?? ?? ?? ??");
     assert_eq!(lines[9], "G7: 7F ?? ?? ?? ??");
     assert_eq!(lines[10], format!("A: 03{}", " ??".repeat(15)));
+}
+
+/// PT6315's data setting 43 leaves the data mode open, so that only some chips store 5B at 00H, which held 5A.
+#[test]
+fn the_program_prints_a_cell_with_an_unknown_bit_as_unknown() {
+    let text = printed(
+        PT6315,
+        "01 02 03 C0 03 5A 03 5A 04 02 03 C0 04 02 03 43 03 5B 04",
+    );
+    let lines: Vec<&str> = text.lines().collect();
+    assert_eq!(lines[1], "00: ?? 5A ??");
+    let text = report(Answer::done(2), Some(&Knowledge::Pt6312(after_p10())));
+    let lines: Vec<&str> = text.lines().collect();
+    assert_eq!(lines[3..6], ["04: 00 00", "06: 00 ??", "08: 00 00"]);
+}
+
+fn after_p10() -> Pt6312 {
+    let mut panel = p10();
+    replay(&mut panel, &[0x03, 0x00], 0);
+    panel
+}
+
+/// One unknown bit, or all but one, in a cell of each RAM.
+#[test]
+fn the_program_prints_unknown_bits_of_pt6302_as_unknown_cells() {
+    let mut panel = character_panel::Pt6302::UNKNOWN;
+    panel.dcram.set(1, Bits::new(0x41, 0xFE));
+    panel.dcram.set(2, Bits::new(0x41, 0xFF));
+    panel.cgram.set(0, Bits::new(0x00, 0x3F));
+    panel.cgram.set(1, Bits::new(0x00, 0x7F));
+    panel.adram.set(0, Bits::new(0x02, 0x02));
+    panel.adram.set(1, Bits::new(0x02, 0x03));
+    let text = report(Answer::done(0), Some(&Knowledge::Pt6302(panel)));
+    let lines: Vec<&str> = text.lines().collect();
+    assert_eq!(lines[1], format!("D: ?? ?? 41{}", " ??".repeat(13)));
+    assert_eq!(lines[2], "G0: ?? 00 ?? ?? ??");
+    assert_eq!(lines[10], format!("A: ?? 02{}", " ??".repeat(14)));
 }
 
 #[test]

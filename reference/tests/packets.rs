@@ -1,6 +1,7 @@
 //! Packets (M-100), with answers worked out by hand from the paper, and beside replay.
 
 use reference::answer::{Answer, LONGEST};
+use reference::bits::Bits;
 use reference::example_lines::bytes_in;
 use reference::key_panel::{Position, Pt6312};
 use reference::knowledge::{Knowledge, PARTS, PT6302, PT6312, PT6315};
@@ -143,7 +144,7 @@ fn a_state_that_cannot_be_comes_before_all_but_the_part() {
         assert!(refused(packets), "{number}");
     }
     let out_of_range = Pt6312 {
-        led: Some(16),
+        led: Bits::all_known(16),
         ..Pt6312::UNKNOWN
     };
     let knowledge = Some(Knowledge::Pt6312(out_of_range));

@@ -1,6 +1,7 @@
 //! Each refusal, its place, and that it leaves the knowledge alone.
 
 use reference::answer::{Answer, LONGEST};
+use reference::bits::Bits;
 use reference::character_panel::Pt6302;
 use reference::example_lines::bytes_in;
 use reference::key_panel::{Address, DataMode, Pt6312, Pt6315};
@@ -207,7 +208,7 @@ fn known_values_out_of_range_on_pt6312() {
     assert!(good(|panel| panel.mode = Some(7)));
     assert!(!good(|panel| panel.mode = Some(8)));
     assert!(!good(|panel| panel.dimming = Some(8)));
-    assert!(!good(|panel| panel.led = Some(16)));
+    assert!(!good(|panel| panel.led = Bits::all_known(16)));
     assert!(!good(|panel| panel.switches = Some(16)));
     assert!(good(|panel| panel.read_count = Some(4)));
     assert!(!good(|panel| panel.read_count = Some(5)));
@@ -232,10 +233,128 @@ fn known_values_out_of_range_on_pt6302() {
     assert!(!good(|panel| panel.cgram_address = Some(8)));
     assert!(!good(|panel| panel.adram_address = Some(16)));
     assert!(!good(|panel| panel.column = Some(5)));
-    assert!(!good(|panel| panel.port = Some(4)));
+    assert!(!good(|panel| panel.port = Bits::all_known(4)));
     assert!(!good(|panel| panel.duty = Some(8)));
     assert!(!good(|panel| panel.digits = Some(8)));
     assert!(good(|panel| panel.dcram.store(0, 0xFF)));
     assert!(!good(|panel| panel.cgram.store(39, 0x80)));
     assert!(!good(|panel| panel.adram.store(0, 4)));
+}
+
+/// Whether these bits are refused in each place that such bits have; the first and the last cell stand for all.
+fn byte_refused(values: u8, known: u8) -> bool {
+    let byte = Bits::new(values, known);
+    let refused = [
+        refused_with_2(|panel: &mut Pt6312| panel.cells.set(0, byte)),
+        refused_with_2(|panel: &mut Pt6312| panel.cells.set(21, byte)),
+        refused_with_2(|panel: &mut Pt6315| panel.cells.set(0, byte)),
+        refused_with_2(|panel: &mut Pt6315| panel.cells.set(35, byte)),
+        refused_with_2(|panel: &mut Pt6302| panel.dcram.set(0, byte)),
+        refused_with_2(|panel: &mut Pt6302| panel.dcram.set(15, byte)),
+    ];
+    alike(&refused)
+}
+
+fn column_refused(values: u8, known: u8) -> bool {
+    let column = Bits::new(values, known);
+    let refused = [
+        refused_with_2(|panel: &mut Pt6302| panel.cgram.set(0, column)),
+        refused_with_2(|panel: &mut Pt6302| panel.cgram.set(39, column)),
+    ];
+    alike(&refused)
+}
+
+fn led_refused(values: u8, known: u8) -> bool {
+    let led = Bits::new(values, known);
+    let refused = [
+        refused_with_2(|panel: &mut Pt6312| panel.led = led),
+        refused_with_2(|panel: &mut Pt6315| panel.led = led),
+    ];
+    alike(&refused)
+}
+
+fn pair_refused(values: u8, known: u8) -> bool {
+    let pair = Bits::new(values, known);
+    let refused = [
+        refused_with_2(|panel: &mut Pt6302| panel.adram.set(0, pair)),
+        refused_with_2(|panel: &mut Pt6302| panel.adram.set(15, pair)),
+        refused_with_2(|panel: &mut Pt6302| panel.port = pair),
+    ];
+    alike(&refused)
+}
+
+fn alike(refused: &[bool]) -> bool {
+    assert!(refused.iter().all(|one| *one == refused[0]), "{refused:?}");
+    refused[0]
+}
+
+type Refuses = fn(u8, u8) -> bool;
+
+const OF_EACH_WIDTH: [(u32, Refuses); 4] = [
+    (8, byte_refused),
+    (7, column_refused),
+    (4, led_refused),
+    (2, pair_refused),
+];
+
+/// Number 2 also covers a bit that is marked unknown but not stored as 0 (M-107): each, alone and beside known ones.
+#[test]
+fn a_one_in_a_bit_that_is_unknown_is_2() {
+    for (width, refused) in OF_EACH_WIDTH {
+        let all = (0xFF >> (8 - width)) as u8;
+        for bit in 0..8 {
+            let one = 1 << bit;
+            assert!(refused(one, 0x00), "width {width}, bit {bit}");
+            assert!(refused(one, all & !one), "width {width}, bit {bit}");
+            assert!(refused(all | one, all & !one), "width {width}, bit {bit}");
+            assert!(!refused(one & all, one & all), "width {width}, bit {bit}");
+            assert!(!refused(0x00, all & !one), "width {width}, bit {bit}");
+        }
+    }
+}
+
+/// Also where the value is 0. A byte has no further bits.
+#[test]
+fn a_mark_on_a_bit_that_the_fact_lacks_is_2() {
+    for (width, refused) in OF_EACH_WIDTH {
+        let all = (0xFF >> (8 - width)) as u8;
+        for bit in width..8 {
+            let mark = 1 << bit;
+            for (values, known) in [
+                (0, mark),
+                (mark, mark),
+                (0, all | mark),
+                (all | mark, all | mark),
+            ] {
+                assert!(
+                    refused(values, known),
+                    "width {width}, {values:02X}/{known:02X}"
+                );
+            }
+        }
+    }
+    assert!(led_refused(0x05, 0x1F));
+    assert!(column_refused(0x00, 0x80));
+    assert!(pair_refused(0x00, 0x04));
+}
+
+/// Every pair of values and marks, by the paper: no mark outside the width, and no 1 where no mark is.
+#[test]
+fn all_other_bits_are_taken() {
+    for (width, refused) in OF_EACH_WIDTH {
+        let has_bit = |bit: u32| bit < width;
+        for code in 0..=u16::MAX {
+            let [known, values] = code.to_be_bytes();
+            let is_set = |byte: u8, bit: u32| byte >> bit & 1 == 1;
+            let good = (0..8).all(|bit| match is_set(known, bit) {
+                true => has_bit(bit),
+                false => !is_set(values, bit),
+            });
+            assert_eq!(
+                refused(values, known),
+                !good,
+                "{width} {values:02X}/{known:02X}"
+            );
+        }
+    }
 }

@@ -1,5 +1,6 @@
 //! The temperature field of M-103, with readings worked out by hand from the paper.
 
+use reference::bits::Bits;
 use reference::cells::Cells;
 use reference::character_panel::{Lights, Pt6302};
 use reference::key_panel::{Pt6312, Pt6315};
@@ -260,14 +261,41 @@ fn one_unknown_cell_is_unknown() {
         for cells in [b"  7.5", b"-----", b"hello"] {
             for unknown in 0..5 {
                 let mut panel = panel_with(start, cells);
-                let facts = panel.dcram;
-                panel.dcram = Cells::from_facts(std::array::from_fn(|at| {
-                    facts.get(at).filter(|_| at != start + unknown)
-                }));
+                panel.dcram.set(start + unknown, Bits::UNKNOWN);
                 assert_eq!(field_at(panel, start as u8), Field::Unknown, "{cells:?}");
             }
         }
     }
+}
+
+/// A cell with any bit unknown counts as unknown (M-107), even where the known ones are in no reading, as are those of
+/// "hello"; all the other cells are known.
+#[test]
+fn one_unknown_bit_is_unknown() {
+    for cells in [b"  7.5", b"-----", b"hello"] {
+        for at in 0..5 {
+            for bit in 0..8 {
+                for known in [!(1 << bit), 1 << bit] {
+                    let mut panel = panel_with(3, cells);
+                    let values = cells[at] & known;
+                    panel.dcram.set(3 + at, Bits::new(values, known));
+                    assert_eq!(field_at(panel, 3), Field::Unknown, "{cells:?} {at} {bit}");
+                    panel.lights = Some(Lights::Off);
+                    assert_eq!(field_at(panel, 3), Field::Dark, "{cells:?} {at} {bit}");
+                }
+            }
+        }
+    }
+}
+
+/// The bits of cells to both sides do not matter.
+#[test]
+fn unknown_bits_beside_the_field_do_not_matter() {
+    let mut panel = panel_with(3, b"- 7.5");
+    for at in [2, 8] {
+        panel.dcram.set(at, Bits::new(0x2C, 0xFE));
+    }
+    assert_eq!(field_at(panel, 3), Field::Reading(-7.5));
 }
 
 /// The cells to both sides hold what would make another field of them.
@@ -289,16 +317,17 @@ fn a_field_may_start_at_any_cell_up_to_11() {
 #[test]
 fn other_facts_do_not_matter() {
     for highest in [false, true] {
-        let value = |most: u8| Some(if highest { most } else { 0 });
+        let number = |most: u8| if highest { most } else { 0 };
+        let value = |most: u8| Some(number(most));
         let mut panel = Pt6302 {
-            dcram: Cells::from_facts([value(0xFF); 16]),
-            cgram: Cells::from_facts([value(0x7F); 40]),
-            adram: Cells::from_facts([value(3); 16]),
+            dcram: Cells::from_facts([Bits::all_known(number(0xFF)); 16]),
+            cgram: Cells::from_facts([Bits::all_known(number(0x7F)); 40]),
+            adram: Cells::from_facts([Bits::all_known(number(3)); 16]),
             dcram_address: value(15),
             cgram_address: value(7),
             adram_address: value(15),
             column: value(4),
-            port: value(3),
+            port: Bits::all_known(number(3)),
             duty: value(7),
             ..panel_with(0, b"")
         };
@@ -312,7 +341,7 @@ fn other_facts_do_not_matter() {
 #[test]
 fn another_part_or_none_is_1_before_all_else() {
     let bad = Pt6312 {
-        led: Some(16),
+        led: Bits::all_known(16),
         ..Pt6312::UNKNOWN
     };
     let others = [
@@ -331,16 +360,20 @@ fn another_part_or_none_is_1_before_all_else() {
 /// Facts that the field does not ask for are tested as well, and so where the field would be dark.
 #[test]
 fn knowledge_out_of_range_is_2_and_comes_before_11() {
-    let changes: [fn(&mut Pt6302); 9] = [
+    let changes: [fn(&mut Pt6302); 13] = [
         |panel| panel.digits = Some(8),
         |panel| panel.duty = Some(8),
-        |panel| panel.port = Some(4),
+        |panel| panel.port = Bits::all_known(4),
         |panel| panel.column = Some(5),
         |panel| panel.dcram_address = Some(16),
         |panel| panel.cgram_address = Some(8),
         |panel| panel.adram_address = Some(16),
         |panel| panel.cgram.store(39, 0x80),
         |panel| panel.adram.store(15, 4),
+        |panel| panel.dcram.set(15, Bits::new(0x2D, 0xFE)),
+        |panel| panel.cgram.set(39, Bits::new(0x00, 0x80)),
+        |panel| panel.adram.set(15, Bits::new(0x01, 0x02)),
+        |panel| panel.port = Bits::new(0x00, 0x04),
     ];
     for change in changes {
         let mut panel = panel_with(0, b"  7.5");

@@ -1,5 +1,6 @@
 //! The update of M-102, with streams worked out by hand from the paper.
 
+use reference::bits::Bits;
 use reference::cells::Cells;
 use reference::character_panel::Pt6302;
 use reference::example_lines::bytes_in;
@@ -13,7 +14,7 @@ const PLENTY: usize = 1_000;
 /// Every cell is known as 6E, and the data setting as write display and increment; nothing else is known.
 fn pt6312() -> Pt6312 {
     Pt6312 {
-        cells: Cells::from_facts([Some(0x6E); 22]),
+        cells: Cells::from_facts([Bits::all_known(0x6E); 22]),
         data_mode: Some(DataMode::WriteDisplay),
         stepping: Some(Stepping::Increment),
         ..Pt6312::UNKNOWN
@@ -22,7 +23,7 @@ fn pt6312() -> Pt6312 {
 
 fn pt6315() -> Pt6315 {
     Pt6315 {
-        cells: Cells::from_facts([Some(0x6E); 36]),
+        cells: Cells::from_facts([Bits::all_known(0x6E); 36]),
         data_mode: Some(DataMode::WriteDisplay),
         stepping: Some(Stepping::Increment),
         ..Pt6315::UNKNOWN
@@ -86,10 +87,48 @@ fn a_single_cell() {
 #[test]
 fn an_unknown_cell_is_sent_whatever_is_wanted() {
     let mut panel = pt6312();
-    panel.cells = Cells::from_facts(std::array::from_fn(|at| (at != 7).then_some(0x6E)));
+    panel.cells.set(7, Bits::UNKNOWN);
     assert_sent(&update_6312(panel, &[], PLENTY), 2, "02 03 C7 03 6E 04");
     let sent = update_6312(panel, &[(7, 0x00)], PLENTY);
     assert_sent(&sent, 2, "02 03 C7 03 00 04");
+}
+
+/// A cell is sent unless every bit is known and equal (M-107), whichever bit is unknown, and however few are known.
+#[test]
+fn a_cell_with_an_unknown_bit_is_sent_whatever_is_wanted() {
+    for bit in 0..8 {
+        for known in [!(1 << bit), 1 << bit] {
+            let mut panel = pt6312();
+            let values = 0x6E & known;
+            panel.cells.set(7, Bits::new(values, known));
+            assert_sent(&update_6312(panel, &[], PLENTY), 2, "02 03 C7 03 6E 04");
+            let sent = update_6312(panel, &[(7, 0x91)], PLENTY);
+            assert_sent(&sent, 2, "02 03 C7 03 91 04");
+            assert_refused(&update_6312(panel, &[], 5), 10);
+        }
+    }
+}
+
+/// A cell of which every known bit is as wanted still parts no run, and joins the ones beside it.
+#[test]
+fn cells_with_unknown_bits_belong_to_runs() {
+    let mut panel = pt6315();
+    for at in [0x00, 0x05, 0x23] {
+        panel.cells.set(at, Bits::new(0x6C, 0xFD));
+    }
+    assert_sent(
+        &update_6315(panel, &[(0x04, 0x44), (0x06, 0x66)], PLENTY),
+        7,
+        "02 03 C4 03 44 03 6E 03 66 04 02 03 E3 03 6E 03 6E 04",
+    );
+}
+
+/// The unknown bits of the LED do not matter.
+#[test]
+fn an_led_with_unknown_bits_changes_nothing() {
+    let mut panel = pt6312();
+    panel.led = Bits::new(0x05, 0x0D);
+    assert_sent(&update_6312(panel, &[], 0), 0, "");
 }
 
 #[test]
@@ -298,13 +337,19 @@ fn one_byte_too_few_is_10() {
 #[test]
 fn knowledge_out_of_range_is_2_and_comes_before_10() {
     let mut panel = pt6312();
-    panel.led = Some(16);
+    panel.led = Bits::all_known(16);
     assert_refused(&update_6312(panel, &[(7, 0x11)], 0), 2);
     assert_refused(&update_6312(panel, &[(7, 0x11)], PLENTY), 2);
     assert_refused(&update_6312(panel, &[], 0), 2);
     let mut panel = pt6315();
     panel.data_mode = Some(DataMode::ReadSwitches);
     assert_refused(&update_6315(panel, &[(7, 0x11)], 0), 2);
+    let mut panel = pt6312();
+    panel.cells.set(7, Bits::new(0x6E, 0xFD));
+    assert_refused(&update_6312(panel, &[], 0), 2);
+    let mut panel = pt6315();
+    panel.led = Bits::new(0x00, 0x10);
+    assert_refused(&update_6315(panel, &[], 0), 2);
     let mut panel = pt6315();
     panel.address = Some(Address::Cell(0x24));
     assert_refused(&update_6315(panel, &[], PLENTY), 2);
@@ -318,7 +363,7 @@ fn other_parts_are_1_before_all_else() {
         let knowledge = Knowledge::Pt6302(panel);
         assert_refused(&update(Some(&knowledge), &picture(36, &[]), room), 1);
     }
-    panel.port = Some(4);
+    panel.port = Bits::all_known(4);
     let knowledge = Knowledge::Pt6302(panel);
     assert_refused(&update(Some(&knowledge), &picture(36, &[]), 0), 1);
 }

@@ -3,6 +3,7 @@
 mod bytes;
 mod moves;
 
+use crate::bits::Pair;
 use crate::cells::Cells;
 use crate::fact::at_most;
 
@@ -26,17 +27,18 @@ pub enum Position {
     Ignoring,
 }
 
-/// The facts, where `None` is unknown; CGRAM's columns stand character by character.
+/// The facts, where `None` is unknown; the RAMs and the port are known bit by bit. CGRAM's columns stand character by
+/// character.
 #[derive(Clone, Copy, Debug, PartialEq, Eq)]
 pub struct Pt6302 {
-    pub dcram: Cells<16>,
-    pub cgram: Cells<40>,
-    pub adram: Cells<16>,
+    pub dcram: Cells<16, 0xFF>,
+    pub cgram: Cells<40, 0x7F>,
+    pub adram: Cells<16, 0x03>,
     pub dcram_address: Option<u8>,
     pub cgram_address: Option<u8>,
     pub adram_address: Option<u8>,
     pub column: Option<u8>,
-    pub port: Option<u8>,
+    pub port: Pair,
     pub duty: Option<u8>,
     pub digits: Option<u8>,
     pub lights: Option<Lights>,
@@ -45,14 +47,15 @@ pub struct Pt6302 {
 
 impl Pt6302 {
     fn facts_in_range(&self) -> bool {
-        self.cgram.iter().all(|column| at_most(column, 0x7F))
-            && self.adram.iter().all(|pair| at_most(pair, 0x03))
-            && at_most(self.dcram_address, 15)
+        at_most(self.dcram_address, 15)
             && at_most(self.cgram_address, CHARACTERS - 1)
             && at_most(self.adram_address, 15)
             && at_most(self.column, COLUMNS - 1)
-            && at_most(self.port, 3)
             && at_most(self.duty, 7)
             && at_most(self.digits, 7)
+            && self.port.in_range()
+            && self.dcram.in_range()
+            && self.cgram.in_range()
+            && self.adram.in_range()
     }
 }

@@ -2,6 +2,7 @@
 
 use super::bytes::{command_in, Command};
 use super::{Lights, Position, Pt6302, CHARACTERS, COLUMNS};
+use crate::bits::Bits;
 use crate::cells::Cells;
 use crate::fact::may_become;
 use crate::replay::Panel;
@@ -28,7 +29,7 @@ impl Pt6302 {
                 self.adram_address = Some(address);
                 self.position = Some(Position::Adram);
             }
-            Command::Port(port) => self.port = Some(port),
+            Command::Port(port) => self.port = Bits::all_known(port),
             Command::Duty(duty) => self.duty = Some(duty),
             Command::Digits(digits) => self.digits = Some(digits),
             Command::Lights(lights) => self.lights = Some(lights),
@@ -49,7 +50,7 @@ impl Pt6302 {
                 may_become(&mut self.column, 0);
             }
             Command::Adram(address) => may_become(&mut self.adram_address, address),
-            Command::Port(port) => may_become(&mut self.port, port),
+            Command::Port(port) => self.port.may_become(port),
             Command::Duty(duty) => may_become(&mut self.duty, duty),
             Command::Digits(digits) => may_become(&mut self.digits, digits),
             Command::Lights(lights) => may_become(&mut self.lights, lights),
@@ -107,7 +108,7 @@ impl Pt6302 {
 
 /// An unknown address steps on to an unknown one.
 #[inline]
-fn store_at(cells: &mut Cells<16>, address: &mut Option<u8>, value: u8) {
+fn store_at<const ALL: u8>(cells: &mut Cells<16, ALL>, address: &mut Option<u8>, value: u8) {
     match *address {
         Some(at) => {
             cells.store(usize::from(at), value);
@@ -117,7 +118,7 @@ fn store_at(cells: &mut Cells<16>, address: &mut Option<u8>, value: u8) {
     }
 }
 
-fn may_store_at(cells: &mut Cells<16>, address: Option<u8>, value: u8) {
+fn may_store_at<const ALL: u8>(cells: &mut Cells<16, ALL>, address: Option<u8>, value: u8) {
     match address {
         Some(at) => cells.may_store(usize::from(at), value),
         None => cells.may_store_anywhere(value),
@@ -146,7 +147,7 @@ impl Panel for Pt6302 {
         cgram_address: None,
         adram_address: None,
         column: None,
-        port: None,
+        port: Bits::UNKNOWN,
         duty: None,
         digits: None,
         lights: None,
@@ -166,7 +167,7 @@ impl Panel for Pt6302 {
         self.cgram_address = Some(0);
         self.adram_address = Some(0);
         self.column = Some(0);
-        self.port = Some(0);
+        self.port = Bits::all_known(0);
         self.duty = Some(0);
         self.digits = Some(0);
         self.lights = Some(Lights::Off);
@@ -182,7 +183,7 @@ impl Panel for Pt6302 {
         self.cgram_address = None;
         self.adram_address = None;
         self.column = None;
-        self.port = None;
+        self.port = Bits::UNKNOWN;
         self.duty = None;
         self.digits = None;
         self.lights = None;

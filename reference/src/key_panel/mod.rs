@@ -3,6 +3,7 @@
 mod bytes;
 mod moves;
 
+use crate::bits::Nibble;
 use crate::cells::Cells;
 use crate::fact::at_most;
 
@@ -41,17 +42,18 @@ pub enum Position {
     Ignoring,
 }
 
-/// The facts, where `None` is unknown; PT6315 has no switches, so nothing looks at them there.
+/// The facts, where `None` is unknown; cells and LED are known bit by bit. PT6315 has no switches, so nothing looks at
+/// them there.
 #[derive(Clone, Copy, Debug, PartialEq, Eq)]
 pub struct KeyPanel<const CELLS: usize, const KEYS: usize> {
-    pub cells: Cells<CELLS>,
+    pub cells: Cells<CELLS, 0xFF>,
     pub address: Option<Address>,
     pub data_mode: Option<DataMode>,
     pub stepping: Option<Stepping>,
     pub mode: Option<u8>,
     pub dimming: Option<u8>,
     pub display: Option<Display>,
-    pub led: Option<u8>,
+    pub led: Nibble,
     pub keys: [Option<u8>; KEYS],
     pub switches: Option<u8>,
     pub read_count: Option<u8>,
@@ -87,7 +89,7 @@ impl Differences for Pt6315 {
 }
 
 const HIGHEST_DIMMING: u8 = 7;
-const HIGHEST_NIBBLE: u8 = 15;
+const HIGHEST_SWITCHES: u8 = 15;
 const HIGHEST_READ_COUNT: u8 = 4;
 
 impl<const CELLS: usize, const KEYS: usize> KeyPanel<CELLS, KEYS>
@@ -100,13 +102,14 @@ where
             _ => true,
         };
         let data_mode_good = Self::SWITCHES || self.data_mode != Some(DataMode::ReadSwitches);
-        let switches_good = !Self::SWITCHES || at_most(self.switches, HIGHEST_NIBBLE);
+        let switches_good = !Self::SWITCHES || at_most(self.switches, HIGHEST_SWITCHES);
         address_good
             && data_mode_good
             && switches_good
             && at_most(self.mode, Self::HIGHEST_MODE)
             && at_most(self.dimming, HIGHEST_DIMMING)
-            && at_most(self.led, HIGHEST_NIBBLE)
             && at_most(self.read_count, HIGHEST_READ_COUNT)
+            && self.led.in_range()
+            && self.cells.in_range()
     }
 }

@@ -3,6 +3,7 @@
 use super::bytes::Command;
 use super::HIGHEST_READ_COUNT;
 use super::{Address, DataMode, Differences, Display, KeyPanel, Position, Stepping};
+use crate::bits::Bits;
 use crate::cells::Cells;
 use crate::fact::may_become;
 use crate::replay::Panel;
@@ -102,7 +103,7 @@ where
         self.mode = None;
         self.dimming = None;
         self.display = None;
-        self.led = None;
+        self.led = Bits::UNKNOWN;
         self.read_count = None;
         self.position = None;
     }
@@ -111,7 +112,7 @@ where
     #[inline(never)]
     fn data_not_to_display(&mut self, byte: u8) {
         match self.data_mode {
-            Some(DataMode::WriteLed) => self.led = Some(byte & 0x0F),
+            Some(DataMode::WriteLed) => self.led = Bits::all_known(byte & 0x0F),
             Some(_) => {}
             None => self.may_be_data(byte),
         }
@@ -123,7 +124,7 @@ where
             self.may_write(byte);
         }
         if matches!(self.data_mode, None | Some(DataMode::WriteLed)) {
-            may_become(&mut self.led, byte & 0x0F);
+            self.led.may_become(byte & 0x0F);
         }
     }
 
@@ -171,7 +172,7 @@ where
         mode: None,
         dimming: None,
         display: None,
-        led: None,
+        led: Bits::UNKNOWN,
         keys: [None; KEYS],
         switches: None,
         read_count: None,
@@ -193,7 +194,7 @@ where
         self.mode = Some(Self::HIGHEST_MODE);
         self.dimming = Some(0);
         self.display = Some(Display::Off);
-        self.led = Some(Self::LED_AT_POWER);
+        self.led = Bits::all_known(Self::LED_AT_POWER);
         self.read_count = Some(0);
         self.position = Some(Position::Idle);
     }

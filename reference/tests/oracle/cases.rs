@@ -19,7 +19,7 @@ pub struct Case {
     pub record: Vec<u8>,
 }
 
-/// Bytes come from a small pool, so that a write often meets its own value.
+/// Bytes come from a small pool, so that a write often meets its own value, or bits of it.
 pub fn any_case(trial: &Trial<impl Chip>, random: &mut Random) -> Case {
     let pool = [random.byte(), random.byte(), random.byte()];
     let mut known = any_knowledge(trial.rules, &pool, random);
@@ -38,15 +38,38 @@ pub fn any_knowledge(rules: &impl Chip, pool: &[u8], random: &mut Random) -> Vec
     let mut known = Vec::new();
     for range in rules.ranges() {
         let unknown = range == 0 || random.below(10) < unknown_in_ten;
-        known.push(if unknown {
-            None
-        } else if range >= 128 {
-            Some((usize::from(random.pick(pool)) % range) as u8)
+        known.push((!unknown).then(|| random.below(range) as u8));
+    }
+    for (first, width) in rules.bytes() {
+        let is_unknown = random.below(10) < unknown_in_ten;
+        let unknown_bits = if is_unknown {
+            any_of_them(random)
         } else {
-            Some(random.below(range) as u8)
-        });
+            0x00
+        };
+        let byte = random.pick(pool);
+        put_bits(&mut known[first..first + width], byte, !unknown_bits);
     }
     known
+}
+
+/// Any bits of a byte, but at least one: all of them, a single one, all but that, or whichever.
+pub fn any_of_them(random: &mut Random) -> u8 {
+    let one = 1 << random.below(8);
+    match random.below(5) {
+        0 | 1 => 0xFF,
+        2 => one,
+        3 => !one,
+        _ => one | random.byte(),
+    }
+}
+
+/// The bits of a byte as facts, of which those that are not marked become unknown.
+pub fn put_bits(facts: &mut [Option<u8>], byte: u8, marks: u8) {
+    for (bit, fact) in facts.iter_mut().enumerate() {
+        let is_known = marks >> bit & 1 == 1;
+        *fact = is_known.then_some(byte >> bit & 1);
+    }
 }
 
 /// The position is learnt last, since not knowing it is the hardest case.

@@ -1,6 +1,6 @@
 //! The moves of one PT6312 or PT6315, written down from the paper for a chip whose facts all have values.
 
-use crate::join::{After, Changes, Chip};
+use crate::join::{store, After, Changes, Chip};
 use After::{Anything, Value};
 
 pub const ADDRESS: usize = 0;
@@ -12,10 +12,14 @@ pub const POSITION: usize = 5;
 pub const READ_FACTS: usize = 6;
 pub const DIMMING: usize = 6;
 pub const DISPLAY: usize = 7;
-pub const LED: usize = 8;
-pub const SWITCHES: usize = 9;
-pub const KEY: usize = 10;
-pub const CELL: usize = 14;
+pub const SWITCHES: usize = 8;
+pub const KEY: usize = 9;
+pub const LED: usize = 13;
+/// The bits of each cell stand together.
+pub const CELL: usize = LED + LED_BITS;
+
+pub const LED_BITS: usize = 4;
+pub const CELL_BITS: usize = 8;
 
 const WRITE_DISPLAY: u8 = 0;
 const WRITE_LED: u8 = 1;
@@ -45,7 +49,7 @@ impl KeyChip {
     }
 
     fn all_facts(&self) -> std::ops::Range<usize> {
-        0..CELL + usize::from(self.cells())
+        0..CELL + CELL_BITS * usize::from(self.cells())
     }
 
     fn power(&self, changes: &mut Changes) {
@@ -60,7 +64,7 @@ impl KeyChip {
         changes.push((READ_COUNT, Value(0)));
         changes.push((POSITION, Value(IDLE)));
         changes.push((MODE, Value(if self.is_6315 { 8 } else { 7 })));
-        changes.push((LED, Value(if self.is_6315 { 0 } else { 15 })));
+        store(changes, LED, LED_BITS, if self.is_6315 { 0 } else { 15 });
     }
 
     fn first_byte(&self, chip: &[u8], byte: u8, changes: &mut Changes) {
@@ -120,12 +124,13 @@ impl KeyChip {
         let address = chip[ADDRESS];
         match chip[DATA_MODE] {
             WRITE_DISPLAY if address < self.cells() => {
-                changes.push((CELL + usize::from(address), Value(byte)));
+                let cell = CELL + CELL_BITS * usize::from(address);
+                store(changes, cell, CELL_BITS, byte);
                 if chip[STEPPING] == INCREMENT {
                     changes.push((ADDRESS, Value((address + 1) % self.cells())));
                 }
             }
-            WRITE_LED => changes.push((LED, Value(byte & 15))),
+            WRITE_LED => store(changes, LED, LED_BITS, byte),
             _ => {}
         }
     }
@@ -134,16 +139,14 @@ impl KeyChip {
 impl Chip for KeyChip {
     fn ranges(&self) -> Vec<usize> {
         let cells = usize::from(self.cells());
-        let mut ranges = vec![256; CELL + cells];
+        let mut ranges = vec![2; CELL + CELL_BITS * cells];
         ranges[ADDRESS] = cells + 1;
         ranges[DATA_MODE] = if self.is_6315 { 3 } else { 4 };
-        ranges[STEPPING] = 2;
         ranges[MODE] = if self.is_6315 { 9 } else { 8 };
         ranges[READ_COUNT] = 5;
         ranges[POSITION] = 4;
         ranges[DIMMING] = 8;
-        ranges[DISPLAY] = 2;
-        ranges[LED] = 16;
+        ranges[KEY..KEY + 4].fill(256);
         if self.is_6315 {
             ranges[SWITCHES] = 0;
         } else {
@@ -151,6 +154,13 @@ impl Chip for KeyChip {
             ranges[KEY + 3] = 0;
         }
         ranges
+    }
+
+    fn bytes(&self) -> Vec<(usize, usize)> {
+        let cells = 0..usize::from(self.cells());
+        let mut bytes = vec![(LED, LED_BITS)];
+        bytes.extend(cells.map(|at| (CELL + CELL_BITS * at, CELL_BITS)));
+        bytes
     }
 
     fn read_facts(&self) -> usize {

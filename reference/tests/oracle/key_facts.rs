@@ -1,11 +1,11 @@
 //! Turns a row of facts into knowledge of a PT6312 or PT6315, and back.
 
+use crate::bit_facts::{bits_in, cells_in, facts_in, facts_of};
 use crate::key_chip::{
     ADDRESS, CELL, DATA_MODE, DIMMING, DISPLAY, KEY, LED, MODE, POSITION, READ_COUNT, STEPPING,
     SWITCHES,
 };
 use crate::Facts;
-use reference::cells::Cells;
 use reference::key_panel::{Address, DataMode, Differences, Display, KeyPanel, Position, Stepping};
 
 const DATA_MODES: [DataMode; 4] = [
@@ -42,14 +42,14 @@ where
             false => Address::Invalid,
         };
         KeyPanel {
-            cells: Cells::from_facts(row[CELL..].try_into().unwrap()),
+            cells: cells_in(&row[CELL..]),
             address: row[ADDRESS].map(address),
             data_mode: named(&DATA_MODES, row[DATA_MODE]),
             stepping: named(&STEPPINGS, row[STEPPING]),
             mode: row[MODE],
             dimming: row[DIMMING],
             display: named(&DISPLAYS, row[DISPLAY]),
-            led: row[LED],
+            led: bits_in(&row[LED..CELL]),
             keys: row[KEY..KEY + KEYS].try_into().unwrap(),
             switches: row[SWITCHES],
             read_count: row[READ_COUNT],
@@ -58,7 +58,7 @@ where
     }
 
     fn to_row(&self) -> Vec<Option<u8>> {
-        let mut row = vec![None; CELL];
+        let mut row = vec![None; LED];
         row[ADDRESS] = self.address.map(|address| match address {
             Address::Cell(number) => number,
             Address::Invalid => CELLS as u8,
@@ -68,12 +68,12 @@ where
         row[MODE] = self.mode;
         row[DIMMING] = self.dimming;
         row[DISPLAY] = numbered(&DISPLAYS, self.display);
-        row[LED] = self.led;
         row[KEY..KEY + KEYS].copy_from_slice(&self.keys);
         row[SWITCHES] = self.switches;
         row[READ_COUNT] = self.read_count;
         row[POSITION] = numbered(&POSITIONS, self.position);
-        row.extend(self.cells.iter());
+        row.extend(facts_of(self.led));
+        row.extend(facts_in(&self.cells));
         row
     }
 }

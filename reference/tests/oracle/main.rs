@@ -1,6 +1,7 @@
 //! Holds the replay against an oracle that goes through every chip, and the update and the temperature against a few
 //! chips each.
 
+mod bit_facts;
 mod cases;
 mod character_chip;
 mod character_facts;
@@ -30,8 +31,7 @@ trait Facts: Panel {
 
 fn compare<P: Facts>(trial: &Trial<impl Chip>) {
     let mut random = Random::new(6312);
-    let mut known_after = 0;
-    let mut lost = 0;
+    let mut seen = Seen::default();
     for number in 0..CASES {
         let case = any_case(trial, &mut random);
         let expected = knowledge_after(trial.rules, &case.known, &case.record);
@@ -46,12 +46,38 @@ fn compare<P: Facts>(trial: &Trial<impl Chip>) {
             case.record,
             case.known
         );
-        for (before, after) in case.known.iter().zip(&expected) {
-            known_after += usize::from(after.is_some());
-            lost += usize::from(before.is_some() && after.is_none());
+        assert!(panel.in_range(), "case {number}: a 1 in an unknown bit");
+        seen.take(trial.rules, &case.known, &expected);
+    }
+    println!("{CASES} cases: {seen:?}");
+    assert!(seen.parted_by_the_event > CASES / 50, "{seen:?}");
+}
+
+/// What came up, to see that single bits are lost, and not always whole bytes.
+#[derive(Default, Debug)]
+struct Seen {
+    facts_known_after: usize,
+    facts_lost: usize,
+    /// Bytes of which some bits were lost by the event and others stayed known.
+    parted_by_the_event: usize,
+    /// Bytes of which just some bits were known before the event, and that it left as they were.
+    partly_known_throughout: usize,
+}
+
+impl Seen {
+    fn take(&mut self, rules: &impl Chip, before: &[Option<u8>], after: &[Option<u8>]) {
+        let lost = |fact: usize| before[fact].is_some() && after[fact].is_none();
+        self.facts_known_after += after.iter().flatten().count();
+        self.facts_lost += (0..after.len()).filter(|&fact| lost(fact)).count();
+        for (first, width) in rules.bytes() {
+            let bits = first..first + width;
+            let known = after[bits.clone()].iter().flatten().count();
+            let is_parted = known > 0 && bits.clone().any(lost);
+            let is_same = before[bits.clone()] == after[bits];
+            self.parted_by_the_event += usize::from(is_parted);
+            self.partly_known_throughout += usize::from(is_same && known > 0 && known < width);
         }
     }
-    println!("{CASES} cases, {known_after} facts known afterwards, {lost} lost");
 }
 
 #[test]

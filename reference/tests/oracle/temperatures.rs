@@ -1,8 +1,9 @@
 //! Holds the temperature against chips that fit, whose text is read as a person would read it: a handful for each
 //! knowledge.
 
-use crate::cases::any_knowledge;
-use crate::character_chip::{CharacterChip, DCRAM, DIGITS, LIGHTS};
+use crate::bit_facts::byte_of;
+use crate::cases::{any_knowledge, any_of_them, put_bits};
+use crate::character_chip::{CharacterChip, BYTE_BITS, DCRAM, DIGITS, LIGHTS};
 use crate::join::Chip;
 use crate::Facts;
 use reference::answer::Answer;
@@ -11,6 +12,7 @@ use reference::knowledge::Knowledge;
 use reference::random::Random;
 use reference::temperature::{temperature, Field, FIELD};
 use reference::trial_fields::any_field;
+use std::ops::Range;
 
 const CASES: usize = 60_000;
 const CHIPS: usize = 4;
@@ -28,12 +30,24 @@ fn any_case(random: &mut Random) -> (Row, u8) {
     let start = random.below(12);
     let unknown_once_in = random.pick(&[4, 1_000_000]);
     for (at, cell) in any_field(random).into_iter().enumerate() {
-        known[DCRAM + start + at] = (!random.once_in(unknown_once_in)).then_some(cell);
+        let is_unknown = random.once_in(unknown_once_in);
+        let unknown_bits = if is_unknown {
+            any_of_them(random)
+        } else {
+            0x00
+        };
+        put_bits(&mut known[cell_at(start + at)], cell, !unknown_bits);
     }
     if random.once_in(2) {
         (known[DIGITS], known[LIGHTS]) = (Some(ALL_16), Some(NORMAL));
     }
     (known, start as u8)
+}
+
+/// The facts of a cell of DCRAM.
+fn cell_at(at: usize) -> Range<usize> {
+    let first = DCRAM + BYTE_BITS * at;
+    first..first + BYTE_BITS
 }
 
 /// Some of the facts that are unknown become known, as a chip that fits may have them.
@@ -66,7 +80,8 @@ fn same(one: Field, other: Field) -> bool {
 fn shown_by(chip: &Row, start: u8) -> Field {
     let value = |fact: usize| chip[fact].expect("a chip has a value for every fact");
     let in_use = [16, 9, 10, 11, 12, 13, 14, 15][usize::from(value(DIGITS))];
-    let digits: Vec<u8> = (0..in_use).map(|digit| value(DCRAM + digit)).collect();
+    let cell = |at: usize| byte_of(&cell_at(at).map(value).collect::<Vec<u8>>());
+    let digits: Vec<u8> = (0..in_use).map(cell).collect();
     let from = usize::from(start);
     match digits.get(from..from + FIELD) {
         Some(cells) if value(LIGHTS) == NORMAL => read(cells),
@@ -127,9 +142,9 @@ fn brightest(known: &Row) -> Row {
 }
 
 fn is_all_known(known: &Row, start: u8) -> bool {
-    let first = DCRAM + usize::from(start);
-    let cells = &known[first..first + FIELD];
-    cells.iter().all(Option::is_some) && known[LIGHTS].is_some() && known[DIGITS].is_some()
+    let first = usize::from(start);
+    let mut bits = (first..first + FIELD).flat_map(cell_at);
+    bits.all(|bit| known[bit].is_some()) && known[LIGHTS].is_some() && known[DIGITS].is_some()
 }
 
 /// Where the field is not unknown, more knowledge does not change it, and every chip that fits shows it.

@@ -1,9 +1,10 @@
 //! Holds the update against the replay, and against chips that fit: a handful for each knowledge and picture.
 
-use crate::cases::any_knowledge;
+use crate::bit_facts::byte_of;
+use crate::cases::{any_knowledge, put_bits};
 use crate::join::{After, Changes, Chip};
 use crate::key_chip::{
-    KeyChip, ADDRESS, CELL, DATA_MODE, POSITION, READ_COUNT, READ_FACTS, STEPPING,
+    KeyChip, ADDRESS, CELL, CELL_BITS, DATA_MODE, POSITION, READ_COUNT, READ_FACTS, STEPPING,
 };
 use crate::Facts;
 use reference::answer::{Answer, LONGEST};
@@ -18,7 +19,7 @@ use reference::update::{update, Update};
 const CASES: usize = 20_000;
 const CHIPS: usize = 5;
 
-/// A knowledge as a row of facts, the wanted cells, and which of them are unknown or different.
+/// A knowledge as a row of facts, the wanted cells, and which of them have a bit that is unknown or different.
 #[derive(Debug)]
 struct Case {
     known: Vec<Option<u8>>,
@@ -26,30 +27,61 @@ struct Case {
     differing: Vec<usize>,
 }
 
-/// Bytes come from a small pool, and many are wanted as they are known, so that sets of every size come up.
+/// Bytes come from a small pool, and many are wanted as they are known, as far as they are, so that sets of every size
+/// come up.
 fn any_case(rules: &KeyChip, random: &mut Random) -> Case {
     let pool = [random.byte(), random.byte(), random.byte()];
     let mut known = any_knowledge(rules, &pool, random);
     if random.once_in(2) {
         (known[DATA_MODE], known[STEPPING]) = (Some(0), Some(0));
     }
-    let cells = known[CELL..].iter();
+    let cells = known[CELL..].chunks(CELL_BITS);
     let stay_in_ten = random.pick(&[0, 3, 7, 9, 10]);
     let wanted: Vec<u8> = cells
-        .map(|cell| match *cell {
-            Some(value) if random.below(10) < stay_in_ten => value,
-            Some(value) if stay_in_ten == 0 => !value,
-            _ => random.pick(&pool),
+        .map(|cell| {
+            let byte = random.pick(&pool);
+            let stays = random.below(10) < stay_in_ten;
+            match stay_in_ten {
+                0 => !as_known(cell, byte),
+                _ if stays => as_known(cell, byte),
+                _ => byte,
+            }
         })
         .collect();
+    let bits_wanted = bits_of(&wanted);
+    let differs = |bit: usize| known[CELL + bit] != bits_wanted[bit];
     let differing = (0..wanted.len())
-        .filter(|&at| known[CELL + at] != Some(wanted[at]))
+        .filter(|at| (CELL_BITS * at..CELL_BITS * (at + 1)).any(differs))
         .collect();
     Case {
         known,
         wanted,
         differing,
     }
+}
+
+/// A byte with the known bits of a cell, and for the rest those of another byte.
+fn as_known(cell: &[Option<u8>], other: u8) -> u8 {
+    let bits: Vec<u8> = cell
+        .iter()
+        .enumerate()
+        .map(|(bit, fact)| fact.unwrap_or(other >> bit & 1))
+        .collect();
+    byte_of(&bits)
+}
+
+/// The facts of a memory that is known throughout.
+fn bits_of(bytes: &[u8]) -> Vec<Option<u8>> {
+    let mut facts = vec![None; CELL_BITS * bytes.len()];
+    for (bits, &byte) in facts.chunks_mut(CELL_BITS).zip(bytes) {
+        put_bits(bits, byte, 0xFF);
+    }
+    facts
+}
+
+/// The memory of a chip.
+fn cells_of(chip: &[u8]) -> Vec<u8> {
+    chip[CELL..].chunks(CELL_BITS).map(byte_of).collect()
 }
 
 /// A chip that fits: known facts have their value, and all others any in their range.
@@ -85,9 +117,11 @@ fn run(rules: &KeyChip, chip: &mut [u8], stream: &[u8]) -> Vec<(usize, u8)> {
                 panic!("record {record:02X?} leaves fact {fact} open");
             };
             chip[fact] = value;
-            if fact >= CELL {
-                writes.push((fact - CELL, value));
-            }
+        }
+        let written = changes.iter().find(|(fact, _)| *fact >= CELL);
+        if let Some((bit, _)) = written {
+            let at = (bit - CELL) / CELL_BITS;
+            writes.push((at, cells_of(chip)[at]));
         }
     }
     writes
@@ -190,8 +224,7 @@ fn check_replay<P: Facts>(case: &Case, panel: P, sent: &Update) {
     let mut after = panel;
     let answer = replay(&mut after, &sent.stream, 0);
     assert_eq!(answer, Answer::done(sent.stream.len()), "{case:02X?}");
-    let wanted: Vec<Option<u8>> = case.wanted.iter().map(|&byte| Some(byte)).collect();
-    assert_eq!(after.to_row()[CELL..], wanted, "{case:02X?}");
+    assert_eq!(after.to_row()[CELL..], bits_of(&case.wanted), "{case:02X?}");
 }
 
 /// The chip ends with the memory that a painting gives it; the differing cells are written, each once, and nothing
@@ -199,7 +232,7 @@ fn check_replay<P: Facts>(case: &Case, panel: P, sent: &Update) {
 fn check_chip(rules: &KeyChip, case: &Case, chip: &[u8], sent: &Update) {
     let mut after = chip.to_vec();
     let mut writes = run(rules, &mut after, &sent.stream);
-    assert_eq!(after[CELL..], case.wanted, "{case:02X?}");
+    assert_eq!(cells_of(&after), case.wanted, "{case:02X?}");
     let mut painted = chip.to_vec();
     run(rules, &mut painted, &painting(&case.wanted));
     assert_eq!(after[CELL..], painted[CELL..], "{case:02X?}");

@@ -40,6 +40,8 @@ struct Tally {
     /// Bad bodies whose kind came in an earlier packet, or was kept from one: of 06, 07 and 08.
     split: [usize; 3],
     met_standing: usize,
+    /// Packets behind which some bits of a byte are known and others are not.
+    partly_known: usize,
 }
 
 pub fn compare(program: &str, seed: u64, count: usize) -> io::Result<bool> {
@@ -62,6 +64,9 @@ impl Tally {
             self.packets.take(answer);
             self.closings.take(example.packets().close());
             self.empty += usize::from(line == "/");
+            let known = example.packets().knowledge;
+            let parted = known.is_some_and(|known| known.is_partly_known());
+            self.partly_known += usize::from(parted && answer.number == Answer::DONE);
             self.met_standing += usize::from(is_standing(&before, answer));
             if let Some(kind) = kind_before_its_fault(&before, answer) {
                 self.split[usize::from(kind - 6)] += 1;
@@ -81,6 +86,7 @@ impl Tally {
         let [bits, keys, switches] = self.split;
         println!("split before the byte at fault: {bits} of 06, {keys} of 07, {switches} of 08");
         println!("standing refusals met: {}", self.met_standing);
+        println!("done, with some bits unknown: {}", self.partly_known);
     }
 }
 

@@ -5,7 +5,7 @@ use crate::bad_bodies::BadBodies;
 use crate::sections::{are_all, Section};
 use reference::answer::Answer;
 use reference::example_lines::Line;
-use reference::example_recordings::{outcome, written};
+use reference::example_recordings::{outcome, written, Outcome};
 use reference::recording::record_starts;
 use reference::trial_recording_lines::trial_recording;
 use std::io;
@@ -21,6 +21,8 @@ const SECTION: Section = Section {
 #[derive(Default)]
 struct Tally {
     replays: Answers,
+    /// Replays that leave some bits of a byte known and others not.
+    partly_known: usize,
     tails: Answers,
     behind_a_gap: usize,
     /// Those that the tail finder met, which looks at every recording from its front.
@@ -50,7 +52,13 @@ pub fn compare(program: &str, seed: u64, count: usize) -> io::Result<bool> {
 
 impl Tally {
     fn take(&mut self, line: &Line) {
-        let (replay, tail) = outcome(line);
+        let Outcome {
+            replay,
+            knowledge,
+            tail,
+        } = outcome(line);
+        let parted = knowledge.is_some_and(|known| known.is_partly_known());
+        self.partly_known += usize::from(parted && replay.number == Answer::DONE);
         self.replays.take(replay);
         self.tails.take(tail.answer);
         self.behind_a_gap += usize::from(tail.places.start > 0);
@@ -69,6 +77,7 @@ impl Tally {
         let lines = self.replays.all();
         println!("{lines} recordings compared in {batches} runs, no difference");
         println!("replays: {}", self.replays.summary());
+        println!("done, with some bits unknown: {}", self.partly_known);
         println!("start places: {}", self.starts.summary());
         println!("tails: {}", self.tails.summary());
         println!("tails behind a gap: {}", self.behind_a_gap);

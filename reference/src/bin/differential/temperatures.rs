@@ -15,12 +15,17 @@ const SECTION: Section = Section {
 
 pub fn compare(program: &str, seed: u64, count: usize) -> io::Result<bool> {
     let mut tally = Tally::default();
+    let mut partly_known = 0;
     let batches = SECTION.compare(program, seed, count, |line| {
-        tally.take(&Example::read(line).temperature());
+        let example = Example::read(line);
+        let known = example.knowledge();
+        partly_known += usize::from(known.is_some_and(|known| known.is_partly_known()));
+        tally.take(&example.temperature());
     })?;
     if let Some(batches) = batches {
         let summary = tally.summary();
         println!("{count} temperatures compared in {batches} runs, no difference: {summary}");
+        println!("with some bits unknown: {partly_known}");
     }
     Ok(batches.is_some())
 }

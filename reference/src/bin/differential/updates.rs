@@ -3,7 +3,7 @@
 use crate::sections::Section;
 use reference::answer::Answer;
 use reference::example_updates::Example;
-use reference::knowledge::PT6315;
+use reference::knowledge::{Knowledge, PT6315};
 use reference::recording::strobes_in;
 use reference::trial_updates::trial_update;
 use std::io;
@@ -32,6 +32,7 @@ struct Tally {
     setting_sent: usize,
     round_the_ring: usize,
     just_full: usize,
+    partly_known: usize,
 }
 
 pub fn compare(program: &str, seed: u64, count: usize) -> io::Result<bool> {
@@ -51,6 +52,8 @@ impl Tally {
         if update.answer.number != Answer::DONE {
             return;
         }
+        let parted = |known: Knowledge| known.is_partly_known();
+        self.partly_known += usize::from(example.knowledge().is_some_and(parted));
         let strobes = strobes_in(&update.stream);
         let cells = if example.part == PT6315 { 36 } else { 22 };
         let goes_round = |run: &Vec<u8>| usize::from(run[0] & 0x3F) + run.len() - 1 > cells;
@@ -66,7 +69,8 @@ impl Tally {
         summary += &format!(" (nothing sent {},", self.nothing_sent);
         summary += &format!(" the data setting first {},", self.setting_sent);
         summary += &format!(" round the ring {},", self.round_the_ring);
-        summary += &format!(" the output just full {})", self.just_full);
+        summary += &format!(" the output just full {},", self.just_full);
+        summary += &format!(" with some bits unknown {})", self.partly_known);
         for (number, times) in self.by_number.iter().enumerate().skip(1) {
             if *times > 0 {
                 summary += &format!(", {times} refused with {number}");
