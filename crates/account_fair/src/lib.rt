@@ -11,7 +11,7 @@ use terms::Part;
 use terms::Place;
 ghost use Prim.Native.Nat.{_<_};
 ghost use lib.ListN.{length};
-ghost use Rattle.standing.specs.View.{Tests};
+ghost use Rattle.rules.specs.Tests.{Tests};
 ghost use Rattle.recording.specs.Start.{CutOff};
 ghost use Rattle.account.specs.Bytes.{bytesOf};
 ghost use Rattle.account_fair.specs.Fair.{MayStand, Fair};

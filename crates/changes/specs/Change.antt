@@ -3,12 +3,12 @@ use Prim.Native.Nat.{ℕ, zero, suc, _+_, _*_, _<_}
 use mathlib.Core.Path.{_≡_}
 use mathlib.Core.Bool.{Bool, false, _||_}
 use mathlib.Core.List.{List}
-use lib.ListN.{getD}
-use lib.Dec.{eqb}
+use lib.Dec.{eqb, ltb}
+use Rattle.rules.specs.Digit.{digit}
 use Rattle.rules.specs.Choice.{whether}
 use Rattle.knowing.specs.Standing.{Standing, known, unknown}
 use Rattle.knowing.specs.Know.{join}
-use Rattle.standing.specs.View.{coded}
+use Rattle.lamps.specs.View.{held}
 use Rattle.changes.specs.declared.change.Change.{Change}
 use Rattle.changes.specs.declared.change.Change.the-variants.{Keep, Put, Meet, Forget}
 
@@ -17,16 +17,23 @@ abbrev pub among : ℕ → ℕ → ℕ → ℕ → Bool
 among from by zero i = false
 among from by (suc n) i = eqb i (from + by * n) || among from by n i
 
--- What is known of code i after a change, by what was known before.
-abbrev pub seen : Change → ℕ → Standing → Standing
-seen Keep i s = s
-seen (Put a b) i s = whether (eqb i (a .0)) (known b) s
-seen (Meet a by n b) i s = whether (among (a .0) by n i) (join s (known b)) s
-seen Forget i s = unknown
+-- What is known of a bit, for bytes of w bits, when a byte is put there, and when it may have been.
+abbrev pub told : ℕ → ℕ → ℕ → Standing → Standing
+told w b k s = whether (ltb k w) (known (digit k b)) s
+
+abbrev pub met : ℕ → ℕ → ℕ → Standing → Standing
+met w b k s = whether (ltb k w) (join s (known (digit k b))) s
+
+-- What is known of bit k of code i after a change, by what was known before.
+abbrev pub seen : ℕ → Change → ℕ → ℕ → Standing → Standing
+seen w Keep i k s = s
+seen w (Put a b) i k s = whether (eqb i (a .0)) (told w b k s) s
+seen w (Meet a by n b) i k s = whether (among (a .0) by n i) (met w b k s) s
+seen w Forget i k s = unknown
 
 -- The codes r are those of l after a change.
-abbrev pub Changes : Change → List ℕ → List ℕ → Type 0
-Changes x l r = (i : ℕ) → coded (getD r i 256) ≡ seen x i (coded (getD l i 256))
+abbrev pub Changes : ℕ → Change → List ℕ → List ℕ → Type 0
+Changes w x l r = (i k : ℕ) → held w r i k ≡ seen w x i k (held w l i k)
 
 -- The change stays within a row of that many codes.
 abbrev pub Inside : ℕ → Change → Type 0

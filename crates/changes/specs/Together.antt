@@ -7,21 +7,24 @@ use mathlib.Core.Bool.{Bool, true, false, _||_, true≢false}
 use mathlib.Core.List.{List}
 use lib.ListN.{length, getD, set, List·getD-eq-default}
 use lib.Seq.{getD-set-same, getD-set-other}
-use lib.Dec.{eqb}
-use borrow.Author.Tests.{eqb-true, eq-eqb, ne-eqb}
+use lib.Dec.{eqb, ltb}
+use borrow.Author.Tests.{eqb-true, eq-eqb, ne-eqb, lt-ltb, le-ltb}
+use Rattle.rules.specs.Digit.{digit}
+use Rattle.rules.specs.Touch.{bits-at, bits-leave}
+use Rattle.rules.specs.Laws.{past}
 use Rattle.rules.specs.Choice.{whether}
-use Rattle.rules.specs.Rule.{value}
-use Rattle.rules.specs.Change.{keep, change}
+use Rattle.rules.specs.Change.{keep, setBits}
 use Rattle.knowing.specs.Standing.{Standing, known, unknown}
 use Rattle.knowing.specs.Know.{join, lifted}
 use Rattle.knowing.specs.Join.{join-swap, join-again, join-not, join-nor, join-itself}
 use Rattle.changes.specs.declared.change.Change.{Change}
 use Rattle.changes.specs.declared.change.Change.the-variants.{Keep, Put, Meet, Forget}
-use Rattle.standing.specs.View.{coded}
-use Rattle.standing.specs.Codes.{Met, met-coded, coded-byte}
-use Rattle.changes.specs.Change.{among, seen, Inside, loose, joinedWith, joined, TogetherWith, Together, Plain}
+use Rattle.lamps.specs.Lamp.{Wide, codeOf, putCode, metCode, put-shown, met-shown}
+use Rattle.lamps.specs.View.{shown, held}
+use Rattle.lamps.specs.Row.{none-shown, TwoBytes, Met}
+use Rattle.changes.specs.Change.{among, told, met, seen, Inside, loose, joinedWith, joined, TogetherWith, Together, Plain}
 
--- A code that keeps or takes part.
+-- A bit that keeps or takes part.
 by-test : (t : Bool) (s x : Standing) → whether t (join s x) s ≡ join s (whether t x s)
 by-test true s x = refl
 by-test false s x = sym (join-itself s)
@@ -39,23 +42,34 @@ one-place a i =
     or-false true = refl
     or-false false = refl
 
-pub loose-seen : (x : Change) (i : ℕ) (s : Standing) → seen (loose x) i s ≡ join s (seen x i s)
-loose-seen Keep i s = sym (join-itself s)
-loose-seen (Put a b) i s = rw (one-place (a .0) i) (by-test (eqb i (a .0)) s (known b))
-loose-seen (Meet a by n b) i s = again (among (a .0) by n i) s (known b)
-loose-seen Forget i s = join-nor s unknown refl
+-- A byte that may have been put.
+met-told : (w b k : ℕ) (s : Standing) → met w b k s ≡ join s (told w b k s)
+met-told w b k s = by-test (ltb k w) s (known (digit k b))
 
-with-seen : (x y : Change) → TogetherWith x y → (i : ℕ) (s : Standing) → seen (joinedWith x y) i s ≡ join (seen x i s) (seen y i s)
-with-seen x Keep t i s = loose-seen x i s ∙ join-swap s (seen x i s)
-with-seen x (Put a b) t i s = sym (ap (λ (y : Change). join (seen x i s) (seen y i s)) (sym t) ∙ join-itself (seen x i s))
-with-seen x (Meet a by n b) t i s = sym (ap (λ (y : Change). join (seen x i s) (seen y i s)) (sym t) ∙ join-itself (seen x i s))
-with-seen x Forget t i s = join-nor (seen x i s) unknown refl
+met-again : (w b k : ℕ) (s : Standing) → met w b k s ≡ join s (met w b k s)
+met-again w b k s = again (ltb k w) s (known (digit k b))
 
-pub joined-seen : (x y : Change) → Together x y → (i : ℕ) (s : Standing) → seen (joined x y) i s ≡ join (seen x i s) (seen y i s)
-joined-seen Keep y t i s = loose-seen y i s
-joined-seen (Put a b) y t i s = with-seen (Put a b) y t i s
-joined-seen (Meet a by n b) y t i s = with-seen (Meet a by n b) y t i s
-joined-seen Forget y t i s = join-not unknown (seen y i s) refl
+either : (t : Bool) (s x y : Standing) → x ≡ join s y → whether t x s ≡ join s (whether t y s)
+either true s x y e = e
+either false s x y e = sym (join-itself s)
+
+loose-seen : (w : ℕ) (x : Change) (i k : ℕ) (s : Standing) → seen w (loose x) i k s ≡ join s (seen w x i k s)
+loose-seen w Keep i k s = sym (join-itself s)
+loose-seen w (Put a b) i k s = rw (one-place (a .0) i) (either (eqb i (a .0)) s _ _ (met-told w b k s))
+loose-seen w (Meet a by n b) i k s = either (among (a .0) by n i) s _ _ (met-again w b k s)
+loose-seen w Forget i k s = join-nor s unknown refl
+
+with-seen : (w : ℕ) (x y : Change) → TogetherWith x y → (i k : ℕ) (s : Standing) → seen w (joinedWith x y) i k s ≡ join (seen w x i k s) (seen w y i k s)
+with-seen w x Keep t i k s = loose-seen w x i k s ∙ join-swap s (seen w x i k s)
+with-seen w x (Put a b) t i k s = sym (ap (λ (y : Change). join (seen w x i k s) (seen w y i k s)) (sym t) ∙ join-itself (seen w x i k s))
+with-seen w x (Meet a by n b) t i k s = sym (ap (λ (y : Change). join (seen w x i k s) (seen w y i k s)) (sym t) ∙ join-itself (seen w x i k s))
+with-seen w x Forget t i k s = join-nor (seen w x i k s) unknown refl
+
+pub joined-seen : (w : ℕ) (x y : Change) → Together x y → (i k : ℕ) (s : Standing) → seen w (joined x y) i k s ≡ join (seen w x i k s) (seen w y i k s)
+joined-seen w Keep y t i k s = loose-seen w y i k s
+joined-seen w (Put a b) y t i k s = with-seen w (Put a b) y t i k s
+joined-seen w (Meet a by n b) y t i k s = with-seen w (Meet a by n b) y t i k s
+joined-seen w Forget y t i k s = join-not unknown (seen w y i k s) refl
 
 loose-inside : (room : ℕ) (x : Change) → Inside room x → Inside room (loose x)
 loose-inside room Keep h = h
@@ -104,27 +118,31 @@ plain-joined (Meet a by n b) y p q = absurd p
 plain-joined Forget y p q = tt
 
 -- One code more is forgotten, and where the row ends all are.
-pub forgot-more : (l : List ℕ) (n : ℕ) → ((i : ℕ) → i < n → getD l i 256 ≡ 256) → n < length l → (i : ℕ) → i < n + 1 → getD (set l n 256) i 256 ≡ 256
+pub forgot-more : (l : List ℕ) (n : ℕ) → ((i : ℕ) → i < n → getD l i 0 ≡ 0) → n < length l → (i : ℕ) → i < n + 1 → getD (set l n 0) i 0 ≡ 0
 forgot-more l n h room i o = go (ℕ-discrete i n)
   where
-    go : Dec (i ≡ n) → getD (set l n 256) i 256 ≡ 256
-    go (yes p) = rw p (getD-set-same l n 256 256 room)
-    go (no p) = getD-set-other l n i 256 256 p ∙ h i (omega arith)
+    go : Dec (i ≡ n) → getD (set l n 0) i 0 ≡ 0
+    go (yes p) = rw p (getD-set-same l n 0 0 room)
+    go (no p) = getD-set-other l n i 0 0 p ∙ h i (omega arith)
 
-pub forgot-all : (l : List ℕ) (n : ℕ) → ((i : ℕ) → i < n → getD l i 256 ≡ 256) → length l ≤ n → (i : ℕ) → getD l i 256 ≡ 256
-forgot-all l n h e i = go (decLt i n)
+pub forgot-all : (w : ℕ) (l : List ℕ) (n : ℕ) → ((i : ℕ) → i < n → getD l i 0 ≡ 0) → length l ≤ n → (i k : ℕ) → held w l i k ≡ unknown
+forgot-all w l n h e i k = go (decLt i n)
   where
-    go : Dec (i < n) → getD l i 256 ≡ 256
-    go (yes p) = h i p
-    go (no p) = List·getD-eq-default l 256 (omega arith)
+    go : Dec (i < n) → held w l i k ≡ unknown
+    go (yes p) = ap (λ (c : ℕ). shown w c k) (h i p) ∙ none-shown w k
+    go (no p) = ap (λ (c : ℕ). shown w c k) (List·getD-eq-default l 0 (omega arith)) ∙ none-shown w k
 
 -- One code put.
-pub put-seen : (l : List ℕ) (a b i : ℕ) → b < 256 → a < length l → coded (getD (set l a b) i 256) ≡ whether (eqb i a) (known b) (coded (getD l i 256))
-put-seen l a b i small h = go (ℕ-discrete i a)
+pub put-seen : (w wide b : ℕ) (l : List ℕ) (a i k : ℕ) → Wide w wide → b < 256 → TwoBytes l → a < length l
+    → held w (set l a (putCode wide (getD l a 0) (codeOf wide b))) i k ≡ whether (eqb i a) (told w b k (held w l i k)) (held w l i k)
+put-seen w wide b l a i k W hb s h = go (ℕ-discrete i a)
   where
-    go : Dec (i ≡ a) → coded (getD (set l a b) i 256) ≡ whether (eqb i a) (known b) (coded (getD l i 256))
-    go (yes p) = rw (p, eq-eqb a a refl) (ap coded (getD-set-same l a b 256 h) ∙ coded-byte b small)
-    go (no p) = rw (ne-eqb i a p) (ap coded (getD-set-other l a i b 256 p))
+    x : ℕ
+    x = putCode wide (getD l a 0) (codeOf wide b)
+
+    go : Dec (i ≡ a) → held w (set l a x) i k ≡ whether (eqb i a) (told w b k (held w l i k)) (held w l i k)
+    go (yes p) = rw (p, eq-eqb a a refl) (ap (λ (c : ℕ). shown w c k) (getD-set-same l a x 0 h) ∙ put-shown w wide b W hb (getD l a 0) k (s a))
+    go (no p) = rw (ne-eqb i a p) (ap (λ (c : ℕ). shown w c k) (getD-set-other l a i x 0 p))
 
 -- Which of the numbers it is, or that it is none.
 found : (from by n i : ℕ) → among from by n i ≡ true → (j : ℕ) × ((j < n) × (i ≡ from + by * j))
@@ -151,7 +169,7 @@ there from by (suc n) j h = go (there from by n j) (ℕ-discrete j n)
     go earlier (no p) = rw (earlier (omega arith)) (or-true (eqb (from + by * j) (from + by * n)))
 
 -- A number is one of them, or none.
-pub among-or-not : (from by n i : ℕ) (x y t : Standing) → ((j : ℕ) → j < n → i ≡ from + by * j → x ≡ t) → (((j : ℕ) → j < n → ¬ (i ≡ from + by * j)) → y ≡ t)
+among-or-not : (from by n i : ℕ) (x y t : Standing) → ((j : ℕ) → j < n → i ≡ from + by * j → x ≡ t) → (((j : ℕ) → j < n → ¬ (i ≡ from + by * j)) → y ≡ t)
     → whether (among from by n i) x y ≡ t
 among-or-not from by n i x y t here rest = go (among from by n i) refl
   where
@@ -161,20 +179,51 @@ among-or-not from by n i x y t here rest = go (among from by n i) refl
         here (f .0) (f .1 .0) (f .1 .1)
     go false e = rest (λ j h p. absurd (true≢false (sym (there from by n j h) ∙ ap (λ (z : ℕ). among from by n z) (sym p) ∙ e)))
 
--- A byte that may have gone to any of several codes.
-pub met-seen : (l r : List ℕ) (from by b n i : ℕ) → b < 256 → Met l from by b n r
-    → coded (getD r i 256) ≡ whether (among from by n i) (join (coded (getD l i 256)) (known b)) (coded (getD l i 256))
-met-seen l r from by b n i small m =
-    sym (among-or-not from by n i _ _ (coded (getD r i 256))
-    (λ j h p. sym (subst⁻¹ (λ (x : ℕ). coded (getD r x 256) ≡ join (coded (getD l x 256)) (known b)) p
-    (ap coded (m .here j h) ∙ met-coded (getD l (from + by * j) 256) b small)))
-    (λ h. sym (ap coded (m .rest i h))))
+-- A bit is one that a byte may have been put in, or it stays, be it of another code or past the width.
+pub met-or-not : (w from by n b i k : ℕ) (s t : Standing) → ((j : ℕ) → j < n → i ≡ from + by * j → k < w → join s (known (digit k b)) ≡ t)
+    → (((j : ℕ) → j < n → k < w → ¬ (i ≡ from + by * j)) → s ≡ t) → whether (among from by n i) (met w b k s) s ≡ t
+met-or-not w from by n b i k s t here rest = among-or-not from by n i (met w b k s) s t (λ j h p. go j h p (decLt k w)) (λ m. rest (λ j h l. m j h))
+  where
+    go : (j : ℕ) → j < n → i ≡ from + by * j → Dec (k < w) → met w b k s ≡ t
+    go j h p (yes l) = rw (lt-ltb k w l) (here j h p l)
+    go j h p (no m) = rw (le-ltb k w (omega arith)) (rest (λ j h l. absurd (m l)))
 
--- A code put is a fact set: the facts are numbered, as cells are.
-module _ {F : Type 0} (same? : Discrete F) (numbered : ℕ → F) (apart : (i j : ℕ) → numbered i ≡ numbered j → i ≡ j) (v : F → Standing) where
-  pub put-told : (a b i : ℕ) → whether (eqb i a) (known b) (v (numbered i)) ≡ lifted v (change same? (numbered a) (value b) keep (numbered i))
-  put-told a b i = go (same? (numbered i) (numbered a))
+-- A byte that may have gone to any of several codes.
+pub met-seen : (w wide : ℕ) (l r : List ℕ) (from by b n i k : ℕ) → Wide w wide → b < 256 → TwoBytes l → Met (λ (a : ℕ). metCode wide a (codeOf wide b)) l from by n r
+    → held w r i k ≡ whether (among from by n i) (met w b k (held w l i k)) (held w l i k)
+met-seen w wide l r from by b n i k W small s m =
+    sym (among-or-not from by n i _ _ (held w r i k)
+    (λ j h p. sym (subst⁻¹ (λ (x : ℕ). held w r x k ≡ met w b k (held w l x k)) p
+    (ap (λ (c : ℕ). shown w c k) (m .here j h) ∙ met-shown w wide b W small (getD l (from + by * j) 0) k (s (from + by * j)))))
+    (λ h. sym (ap (λ (c : ℕ). shown w c k) (m .rest i h))))
+
+-- A code put is its bits set: the facts are numbered by code and bit, as those of cells are.
+module _ {F : Type 0} (same? : Discrete F) (numbered : ℕ → ℕ → F) (apart : (i k j n : ℕ) → numbered i k ≡ numbered j n → (i ≡ j) × (k ≡ n)) (v : F → Standing) where
+  pub put-told : (w a b i k : ℕ) → whether (eqb i a) (told w b k (v (numbered i k))) (v (numbered i k)) ≡ lifted v (setBits same? (numbered a) w b keep (numbered i k))
+  put-told w a b i k = go (ℕ-discrete i a) (decLt k w)
     where
-      go : (d : Dec (numbered i ≡ numbered a)) → whether (eqb i a) (known b) (v (numbered i)) ≡ lifted v (elim d [ yes _ ↦ value b | no _ ↦ keep (numbered i) ])
-      go (yes p) = rw (eq-eqb i a (apart i a p)) refl
-      go (no n) = rw (ne-eqb i a (λ p. n (ap numbered p))) refl
+      go : Dec (i ≡ a) → Dec (k < w) → whether (eqb i a) (told w b k (v (numbered i k))) (v (numbered i k)) ≡ lifted v (setBits same? (numbered a) w b keep (numbered i k))
+      go (yes p) (yes l) =
+          rw (p, eq-eqb a a refl, lt-ltb k w l)
+          (sym (ap (lifted v) (bits-at same? (numbered a) (λ m n q. apart a m a n q .1) w b keep k l)))
+      go (yes p) (no n) =
+          rw (eq-eqb i a p, le-ltb k w (omega arith))
+          (sym (ap (lifted v) (bits-leave same? (numbered a) w b keep (numbered i k) (λ m l q. absurd (past w k n m l (apart i k a m q .1))))))
+      go (no n) d =
+          rw (ne-eqb i a n)
+          (sym (ap (lifted v) (bits-leave same? (numbered a) w b keep (numbered i k) (λ m l q. n (apart i k a m q .0)))))
+
+-- The same for a single byte, as the LED is.
+module _ {F : Type 0} (same? : Discrete F) (at : ℕ → F) (apart : (i j : ℕ) → at i ≡ at j → i ≡ j) (v : F → Standing) where
+  bits-told : (w b k : ℕ) → told w b k (v (at k)) ≡ lifted v (setBits same? at w b keep (at k))
+  bits-told w b k = go (decLt k w)
+    where
+      go : Dec (k < w) → told w b k (v (at k)) ≡ lifted v (setBits same? at w b keep (at k))
+      go (yes l) = rw (lt-ltb k w l) (sym (ap (lifted v) (bits-at same? at apart w b keep k l)))
+      go (no n) = rw (le-ltb k w (omega arith)) (sym (ap (lifted v) (bits-leave same? at w b keep (at k) (λ m l q. absurd (past w k n m l (apart k m q))))))
+
+  -- The same for the code that the byte was put in, as `put_byte` promises it.
+  pub code-told : (w wide b old new k : ℕ) → Wide w wide → v (at k) ≡ shown w old k → (new ≡ putCode wide old (codeOf wide b)) × ((old < 65536) × (b < 256))
+      → shown w new k ≡ lifted v (setBits same? at w b keep (at k))
+  code-told w wide b old new k W e p =
+      ap (λ (n : ℕ). shown w n k) (p .0) ∙ put-shown w wide b W (p .1 .1) old k (p .1 .0) ∙ ap (told w b k) (sym e) ∙ bits-told w b k

@@ -6,9 +6,9 @@ ghost use Rattle.changes.specs.Change.{loose, joined, joinedWith};
 pub enum Change {
     // Every code stays.
     Keep,
-    // One code becomes known.
+    // One code becomes known, every bit of it.
     Put(Address, u8),
-    // A byte may have gone to any of these codes: from the first on, one in so many, so many of them. Each keeps what it has in common with the byte.
+    // A byte may have gone to any of these codes: from the first on, one in so many, so many of them. Each keeps the bits that it has in common with the byte.
     Meet(Address, u8, u8, u8),
     // Every code becomes unknown.
     Forget,

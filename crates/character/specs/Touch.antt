@@ -8,7 +8,7 @@ use lib.Dec.{eqb}
 use Rattle.rules.specs.Choice.{whether-all, of6-all}
 use Rattle.rules.specs.Rule.{value, gives, look, run}
 use Rattle.rules.specs.Change.{keep}
-use Rattle.rules.specs.Touch.{Leaves, Settles, settles, isAnything, change-leaves, AllSettle, keep-settles, change-settles}
+use Rattle.rules.specs.Touch.{Leaves, Settles, settles, isAnything, change-leaves, AllSettle, keep-settles, change-settles, bits-settle}
 use Rattle.terms.specs.declared.Event.{Event}
 use Rattle.terms.specs.declared.Event.the-variants.{Power, Falls, ByteIn, Rises, Gap, Unfinished, Keys, Switches, ByteOut}
 use Rattle.character.specs.declared.command.Command.{Command}
@@ -18,7 +18,7 @@ use Rattle.character.specs.declared.chip.Position.the-variants.{Dcram as
 use Rattle.character.specs.Fact.{Fact, same?, dcram, cgram, adram, dcramAt, cgramAt, adramAt, column, port, duty, digits, lights, position}
 use Rattle.character.specs.Value.{lit, at-position}
 use Rattle.character.specs.Command.{commandOf, Defined}
-use Rattle.character.specs.Move.{Forms, sets, then, commanded, shown, drawn, marked, byteIn, move}
+use Rattle.character.specs.Move.{Forms, sets, spells, then, commanded, shown, drawn, marked, byteIn, move}
 
 -- The strobe and unfinished bits leave every fact alone but the position.
 pub strobe-leaves : (n : ℕ) (f : Fact) → f ≢ position → Leaves f (move Falls) × Leaves f (move Rises) × Leaves f (move (Unfinished n))
@@ -44,6 +44,9 @@ Settled ByteOut = Unit
 sets-settle : (g : Fact) (v : ℕ) (φ : Forms) → AllSettle same? φ → AllSettle same? (sets g v φ)
 sets-settle g v φ h = change-settles same? g (value v) φ refl h
 
+spells-settle : (at : ℕ → Fact) (w b : ℕ) (φ : Forms) → AllSettle same? φ → AllSettle same? (spells at w b φ)
+spells-settle at w b φ h = bits-settle same? at w b φ h
+
 kept : AllSettle same? keep
 kept = keep-settles same?
 
@@ -54,7 +57,7 @@ commanded-settles : (m : Command) → Defined m → AllSettle same? (commanded m
 commanded-settles (Dcram a) h = sets-settle dcramAt (a .0) _ (then-settles inDcram)
 commanded-settles (Cgram a) h = sets-settle cgramAt (a .0) _ (sets-settle column 0 _ (then-settles inCgram))
 commanded-settles (Adram a) h = sets-settle adramAt (a .0) _ (then-settles inAdram)
-commanded-settles (Port p) h = sets-settle port p _ (then-settles Ignoring)
+commanded-settles (Port p) h = spells-settle port 2 p _ (then-settles Ignoring)
 commanded-settles (Duty d) h = sets-settle duty d _ (then-settles Ignoring)
 commanded-settles (Digits d) h = sets-settle digits d _ (then-settles Ignoring)
 commanded-settles (Light l) h = sets-settle lights (lit l) _ (then-settles Ignoring)
@@ -63,8 +66,8 @@ commanded-settles Undefined h = absurd h
 
 drawn-settles : (b a k : ℕ) (f : Fact) → Settles f (drawn b a k)
 drawn-settles b a k f =
-    let cells : Forms = sets (cgram (a % 8 * 5 + k % 5)) (b % 128) keep in
-    let h = sets-settle (cgram (a % 8 * 5 + k % 5)) (b % 128) keep kept in
+    let cells : Forms = spells (cgram (a % 8 * 5 + k % 5)) 7 b keep in
+    let h = spells-settle (cgram (a % 8 * 5 + k % 5)) 7 b keep kept in
     whether-all (Settles f) (eqb (k % 5) 4) _ _
     (λ _. sets-settle cgramAt ((a % 8 + 1) % 8) (sets column 0 cells) (sets-settle column 0 cells h) f)
     (λ _. sets-settle column (k % 5 + 1) cells h f)
@@ -75,9 +78,9 @@ settled Power h = absurd h
 settled Falls h = sets-settle position _ keep kept
 settled (ByteIn b) h =
     λ f q. of6-all (Settles f) _ _ _ _ _ _ refl (commanded-settles (commandOf b) h f)
-    (λ a. sets-settle dcramAt ((a % 16 + 1) % 16) (sets (dcram (a % 16)) b keep) (sets-settle (dcram (a % 16)) b keep kept) f)
+    (λ a. sets-settle dcramAt ((a % 16 + 1) % 16) (spells (dcram (a % 16)) 8 b keep) (spells-settle (dcram (a % 16)) 8 b keep kept) f)
     (λ a k. drawn-settles b a k f)
-    (λ a. sets-settle adramAt ((a % 16 + 1) % 16) (sets (adram (a % 16)) (b % 4) keep) (sets-settle (adram (a % 16)) (b % 4) keep kept) f)
+    (λ a. sets-settle adramAt ((a % 16 + 1) % 16) (spells (adram (a % 16)) 2 b keep) (spells-settle (adram (a % 16)) 2 b keep kept) f)
     refl q
 settled Rises h = sets-settle position _ keep kept
 settled Gap h = absurd h
@@ -93,7 +96,7 @@ byte-settles b c h f = go (c position) refl
     shown-settles : isAnything (run (look dcramAt (shown b)) c f) ≡ false
     shown-settles =
         settles f (look dcramAt (shown b)) c
-        (λ a. sets-settle dcramAt ((a % 16 + 1) % 16) (sets (dcram (a % 16)) b keep) (sets-settle (dcram (a % 16)) b keep kept) f)
+        (λ a. sets-settle dcramAt ((a % 16 + 1) % 16) (spells (dcram (a % 16)) 8 b keep) (spells-settle (dcram (a % 16)) 8 b keep kept) f)
 
     columns-settle : isAnything (run (look cgramAt (λ a. look column (drawn b a))) c f) ≡ false
     columns-settle = settles f (look cgramAt (λ a. look column (drawn b a))) c (λ a k. drawn-settles b a k f)
@@ -101,7 +104,7 @@ byte-settles b c h f = go (c position) refl
     marked-settles : isAnything (run (look adramAt (marked b)) c f) ≡ false
     marked-settles =
         settles f (look adramAt (marked b)) c
-        (λ a. sets-settle adramAt ((a % 16 + 1) % 16) (sets (adram (a % 16)) (b % 4) keep) (sets-settle (adram (a % 16)) (b % 4) keep kept) f)
+        (λ a. sets-settle adramAt ((a % 16 + 1) % 16) (spells (adram (a % 16)) 2 b keep) (spells-settle (adram (a % 16)) 2 b keep kept) f)
 
     go : (q : ℕ) → c position ≡ q → isAnything (run (byteIn b q) c f) ≡ false
     go zero e = refl

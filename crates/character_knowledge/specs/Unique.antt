@@ -3,7 +3,8 @@ use mathlib.Core.Path.{_≡_, refl, sym}
 use lib.ListN.{length}
 use Rattle.knowing.specs.Join.{not-known, known-one}
 use Rattle.standing.specs.View.{same-single}
-use Rattle.standing.specs.Codes.{same-row}
+use Rattle.lamps.specs.Lamp.{one-code}
+use Rattle.lamps.specs.Row.{one-row}
 use Rattle.character.specs.Fact.{Fact, dcram, cgram, adram, dcramAt, cgramAt, adramAt, column, port, duty, digits, lights, position}
 use Rattle.character_knowledge.specs.declared.control.Pointing.{Pointing}
 use Rattle.character_knowledge.specs.declared.control.Pointing.the-variants.{At, Unknown}
@@ -26,14 +27,14 @@ same-pointing Unknown Unknown e = refl
 
 pub same-knowledge : (a b : Knowledge) → Shaped a → Shaped b → ((f : Fact) → kview a f ≡ kview b f) → a ≡ b
 same-knowledge a b sa sb h =
-    let ds = same-row 16 (a .dcram) (b .dcram) (sa .dcram) (sb .dcram) (λ i. h (dcram i)) in
-    let gs = same-row 40 (a .cgram) (b .cgram) (sa .cgram) (sb .cgram) (λ i. h (cgram i)) in
-    let aa = same-row 16 (a .adram) (b .adram) (sa .adram) (sb .adram) (λ i. h (adram i)) in
+    let ds = one-row 8 16 (a .dcram) (b .dcram) (sa .dcram) (sb .dcram) (λ i k. h (dcram i k)) in
+    let gs = one-row 7 40 (a .cgram) (b .cgram) (sa .cgram) (sb .cgram) (λ i k. h (cgram i k)) in
+    let aa = one-row 2 16 (a .adram) (b .adram) (sa .adram) (sb .adram) (λ i k. h (adram i k)) in
     let d = same-pointing (a .control .«dcram_at») (b .control .«dcram_at») (h dcramAt) in
     let g = same-pointing (a .control .«cgram_at») (b .control .«cgram_at») (h cgramAt) in
     let m = same-pointing (a .control .«adram_at») (b .control .«adram_at») (h adramAt) in
     let c = same-single (a .control .column) (b .control .column) (h column) in
-    let p = same-single (a .control .port) (b .control .port) (h port) in
+    let p = one-code 2 (a .control .port) (b .control .port) (λ k. h (port k)) in
     let u = same-single (a .control .duty) (b .control .duty) (h duty) in
     let n = same-single (a .control .digits) (b .control .digits) (h digits) in
     let l = same-single (a .control .lights) (b .control .lights) (h lights) in

@@ -13,12 +13,13 @@ pub enum Pointing {
     Unknown,
 }
 
+// The port is a code of `lamps`, bit by bit.
 pub struct Control {
     pub dcram_at: Pointing,
     pub cgram_at: Pointing,
     pub adram_at: Pointing,
     pub column: Standing,
-    pub port: Standing,
+    pub port: u16,
     pub duty: Standing,
     pub digits: Standing,
     pub lights: Standing,
@@ -34,7 +35,7 @@ pub fn no_control() -> Control
         cgram_at: Pointing::Unknown,
         adram_at: Pointing::Unknown,
         column: Standing::Unknown,
-        port: Standing::Unknown,
+        port: 0,
         duty: Standing::Unknown,
         digits: Standing::Unknown,
         lights: Standing::Unknown,

@@ -6,7 +6,7 @@ ghost use Rattle.knowing.specs.Standing.{unknown};
 ghost use Rattle.character.specs.Fact.{Fact};
 ghost use Rattle.character_knowledge.specs.View.{kview};
 
-// What is known of a panel: its memory, and all else. A cell of a RAM that is 256 is unknown, and one below is known to be that; column k of
+// What is known of a panel: its memory, and all else. A cell of a RAM is a code of `lamps`, bit by bit; column k of
 // character n stands at 5 n + k of cgram.
 pub struct Knowledge {
     pub dcram: [u16; 16],
@@ -19,9 +19,9 @@ pub fn nothing_known() -> Knowledge
     ensures { λ r. ⌜ ((f : Fact) → kview r f ≡ unknown) ⌝ }
 {
     Knowledge {
-        dcram: [256; 16],
-        cgram: [256; 40],
-        adram: [256; 16],
+        dcram: [0; 16],
+        cgram: [0; 40],
+        adram: [0; 16],
         control: no_control(),
     }
 }

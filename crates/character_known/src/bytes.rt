@@ -7,8 +7,6 @@ use character_knowledge::CGRAM;
 use character_knowledge::Control;
 use character_knowledge::DCRAM;
 use character_knowledge::FIRST;
-use character_knowledge::IDLE;
-use character_knowledge::IGNORING;
 use character_knowledge::Pointing;
 use character_knowledge::at;
 use character_steps::Step;
@@ -47,7 +45,8 @@ fn in_at(c: Control, byte: u8, place: u8) -> Step
     }
 }
 
-// At an unknown position the byte may be a command, go to any RAM, or do nothing.
+// At an unknown position the byte may be a command, go to any RAM, or do nothing. The two ways that do nothing, idle and ignoring, have in common all that
+// is known, with the position unknown as it is, and so count as one.
 fn in_anywhere(c: Control, byte: u8) -> Step
     requires { ⌜ stands (c .position) ≡ unknown ⌝ }
     ensures { λ r. ⌜ Steps (look position (byteIn byte)) c r ⌝ }
@@ -56,9 +55,8 @@ fn in_anywhere(c: Control, byte: u8) -> Step
     let dcram = to_show(at(c, DCRAM), byte);
     let cgram = to_draw(at(c, CGRAM), byte);
     let adram = to_mark(at(c, ADRAM), byte);
-    let commanded = both_steps(kept(at(c, IDLE)), first);
-    let stored = both_steps(both_steps(both_steps(commanded, dcram), cgram), adram);
-    both_steps(stored, kept(at(c, IGNORING)))
+    let commanded = both_steps(kept(c), first);
+    both_steps(both_steps(both_steps(commanded, dcram), cgram), adram)
 }
 
 // A byte goes to DCRAM, and the other RAMs stay.
@@ -92,7 +90,7 @@ fn show_at(c: Control, byte: u8, address: Address) -> Step
     }
 }
 
-// A pair of bits goes to ADRAM, and the other RAMs stay.
+// A pair of bits goes to ADRAM, and the other RAMs stay. The change carries the byte as it comes: the row takes two bits of it.
 fn to_mark(c: Control, byte: u8) -> Step
     ensures { λ r. ⌜ (Steps (look adramAt (marked byte)) c r) × ((Plain (r .dcram)) × (Plain (r .cgram))) ⌝ }
 {
@@ -103,7 +101,7 @@ fn to_mark(c: Control, byte: u8) -> Step
             control: c,
             dcram: Change::Keep,
             cgram: Change::Keep,
-            adram: Change::Meet(Address(0), 1, 16, byte % 4),
+            adram: Change::Meet(Address(0), 1, 16, byte),
         },
     }
 }
@@ -119,6 +117,6 @@ fn mark_at(c: Control, byte: u8, address: Address) -> Step
         },
         dcram: Change::Keep,
         cgram: Change::Keep,
-        adram: Change::Put(Address(cell), byte % 4),
+        adram: Change::Put(Address(cell), byte),
     }
 }

@@ -1,5 +1,5 @@
 // What a column clocked in makes of a knowledge: it goes to CGRAM, and the other RAMs stay. Where the character or the column is unknown, it may be
-// in any of several places.
+// in any of several places. The change carries the byte as it comes: the row takes seven bits of it.
 use changes::Change;
 use character_knowledge::Control;
 use character_knowledge::Pointing;
@@ -40,7 +40,7 @@ fn draw_in(c: Control, byte: u8, address: Address) -> Step
                 ..c
             },
             dcram: Change::Keep,
-            cgram: Change::Meet(Address(address.0 % 8 * 5), 1, 5, byte % 128),
+            cgram: Change::Meet(Address(address.0 % 8 * 5), 1, 5, byte),
             adram: Change::Keep,
         },
     }
@@ -52,7 +52,7 @@ fn draw_at(c: Control, byte: u8, address: Address, number: u8) -> Step
 {
     let character = address.0 % 8;
     let column = number % 5;
-    let cgram = Change::Put(Address(character * 5 + column), byte % 128);
+    let cgram = Change::Put(Address(character * 5 + column), byte);
     if column == 4 {
         Step {
             control: Control {
@@ -88,7 +88,7 @@ fn draw_anywhere(c: Control, byte: u8) -> Step
         Standing::Unknown => Step {
             control: c,
             dcram: Change::Keep,
-            cgram: Change::Meet(Address(0), 1, 40, byte % 128),
+            cgram: Change::Meet(Address(0), 1, 40, byte),
             adram: Change::Keep,
         },
     }
@@ -105,7 +105,7 @@ fn draw_column(c: Control, byte: u8, number: u8) -> Step
             ..c
         },
         dcram: Change::Keep,
-        cgram: Change::Meet(Address(at), 5, 8, byte % 128),
+        cgram: Change::Meet(Address(at), 5, 8, byte),
         adram: Change::Keep,
     }
 }

@@ -16,6 +16,8 @@ use character_knowledge::no_control;
 use character_steps::Step;
 use character_steps::forgotten;
 use character_steps::kept;
+use lamps::TWO;
+use lamps::put_byte;
 use standing::Standing;
 use terms::Address;
 ghost use mathlib.Core.Path.{_≡_};
@@ -34,7 +36,7 @@ pub fn first_in(c: Control, byte: u8) -> Step
         Command::Dcram(address) => kept(show_from(c, address)),
         Command::Cgram(address) => kept(draw_from(c, address)),
         Command::Adram(address) => kept(mark_from(c, address)),
-        Command::Port(port) => kept(port_set(c, port)),
+        Command::Port(bits) => kept(port_set(c, bits)),
         Command::Duty(duty) => kept(duty_set(c, duty)),
         Command::Digits(digits) => kept(digits_set(c, digits)),
         Command::Light(lights) => kept(lights_set(c, lights)),
@@ -74,11 +76,13 @@ fn mark_from(c: Control, address: Address) -> Control
     }
 }
 
-fn port_set(c: Control, port: u8) -> Control
-    ensures { λ r. ⌜ Keeps (gives (commanded (Command.Port port))) c r ⌝ }
+fn port_set(c: Control, bits: u8) -> Control
+    ensures { λ r. ⌜ Keeps (gives (commanded (Command.Port bits))) c r ⌝ }
 {
+    let old = c.port;
+    let port = put_byte(TWO, old, bits);
     Control {
-        port: Standing::Known(port),
+        port,
         position: Standing::Known(IGNORING),
         ..c
     }

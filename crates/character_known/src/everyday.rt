@@ -11,7 +11,7 @@ use character_knowledge::at;
 use standing::Standing;
 use terms::Address;
 ghost use mathlib.Core.Path.{_≡_};
-ghost use Prim.Native.Nat.{ℕ, _%_, _<_};
+ghost use Prim.Native.Nat.{ℕ, _<_};
 ghost use Rattle.knowing.specs.Standing.{known};
 ghost use Rattle.standing.specs.View.{stands};
 ghost use Rattle.changes.specs.declared.change.Change.the-variants.{Keep, Put};
@@ -133,7 +133,7 @@ pub fn column_at(character: Address, column: u8) -> Address
 // The byte is stored in that column, and the next goes to the one behind it, or to the next character.
 pub fn drawn_on(c: Control, character: Address, column: u8) -> Control
     requires { ⌜ Drawing c (character .0) column ⌝ }
-    ensures { λ r. ⌜ ((b : ℕ) → Steps (move (ByteIn b)) c (record { control = r; dcram = Keep; cgram = Put (columnAt (character .0) column) (b % 128); adram = Keep })) ⌝ }
+    ensures { λ r. ⌜ ((b : ℕ) → Steps (move (ByteIn b)) c (record { control = r; dcram = Keep; cgram = Put (columnAt (character .0) column) b; adram = Keep })) ⌝ }
 {
     if column == 4 {
         Control {
@@ -152,7 +152,7 @@ pub fn drawn_on(c: Control, character: Address, column: u8) -> Control
 // The pair of bits is stored in that cell of ADRAM, and the next goes behind it.
 pub fn marked_on(c: Control, cell: Address) -> Control
     requires { ⌜ Marking c (cell .0) ⌝ }
-    ensures { λ r. ⌜ ((b : ℕ) → Steps (move (ByteIn b)) c (record { control = r; dcram = Keep; cgram = Keep; adram = Put cell (b % 4) })) ⌝ }
+    ensures { λ r. ⌜ ((b : ℕ) → Steps (move (ByteIn b)) c (record { control = r; dcram = Keep; cgram = Keep; adram = Put cell b })) ⌝ }
 {
     Control {
         adram_at: Pointing::At(Address((cell.0 + 1) % 16)),

@@ -12,6 +12,10 @@ use character_steps::Step;
 use character_steps::forgotten;
 use character_steps::kept;
 use character_steps::lost;
+use lamps::EIGHT;
+use lamps::SEVEN;
+use lamps::TWO;
+use lamps::put_byte;
 use standing::Standing;
 use terms::Address;
 use terms::Event;
@@ -42,12 +46,14 @@ fn step(c: Control, event: Event) -> Step
 fn at_power(c: Control) -> Step
     ensures { λ r. ⌜ Steps (gives powered) c r ⌝ }
 {
+    let old = c.port;
+    let port = put_byte(TWO, old, 0);
     forgotten(Control {
         dcram_at: Pointing::At(Address(0)),
         cgram_at: Pointing::At(Address(0)),
         adram_at: Pointing::At(Address(0)),
         column: Standing::Known(0),
-        port: Standing::Known(0),
+        port,
         duty: Standing::Known(0),
         digits: Standing::Known(0),
         lights: Standing::Known(OFF),
@@ -68,11 +74,11 @@ pub fn taken(
 {
     let next = step(c, event);
     let to_dcram = next.dcram;
-    apply(dcram, to_dcram);
+    apply(dcram, EIGHT, to_dcram);
     let to_cgram = next.cgram;
-    apply(cgram, to_cgram);
+    apply(cgram, SEVEN, to_cgram);
     let to_adram = next.adram;
-    apply(adram, to_adram);
+    apply(adram, TWO, to_adram);
     next.control
 }
 

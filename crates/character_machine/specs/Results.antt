@@ -6,7 +6,6 @@ use Rattle.rules.specs.Range.{Good}
 use Rattle.rules.specs.Turn.{Result}
 use Rattle.rules.specs.Results.{HasAnswer, results-exactly}
 use Rattle.terms.specs.declared.Event.{Event}
-use Rattle.terms.specs.Event.{Bytes}
 use Rattle.character.specs.declared.chip.Character.{Character}
 use Rattle.character.specs.declared.chip.Moved.{Moved}
 use Rattle.character.specs.Fact.{Fact, range}
@@ -15,10 +14,10 @@ use Rattle.character.specs.Range.{ranged}
 use Rattle.character.specs.View.{view, covers, By}
 
 -- The chip is in range, and m is what `moved` answers to the event.
-module _ (e : Event) (bytes : Bytes e) (chip : Character) (m : Moved) (good : Good range (view chip))
+module _ (e : Event) (chip : Character) (m : Moved) (good : Good range (view chip))
     (met : By (move e) chip m) where
   pub moved-results : (x : Fact → ℕ)
       → (Result range (move e) (view chip) x → Good range x × HasAnswer (view (m .chip)) (covers (m .any)) x)
       × (Good range x × HasAnswer (view (m .chip)) (covers (m .any)) x → Result range (move e) (view chip) x)
   moved-results =
-      results-exactly range (move e) (view chip) (view (m .chip)) (covers (m .any)) met (ranged e bytes) good
+      results-exactly range (move e) (view chip) (view (m .chip)) (covers (m .any)) met (ranged e) good

@@ -35,9 +35,9 @@ pub fn commanded(chip: Character, command: Command) -> Moved
             },
             Position::Adram,
         ),
-        Command::Port(port) => {
+        Command::Port(bits) => {
             let mut new = chip;
-            new.port = port;
+            new.port = (chip.port ^ (chip.port & 3)) | (bits & 3);
             at(new, Position::Ignoring)
         }
         Command::Duty(duty) => {

@@ -54,7 +54,7 @@ fn at_power(chip: Character) -> Moved
             cgram_at: Address(0),
             adram_at: Address(0),
             column: 0,
-            port: 0,
+            port: chip.port ^ (chip.port & 3),
             duty: 0,
             digits: 0,
             lights: Lights::Off,

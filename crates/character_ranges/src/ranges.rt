@@ -1,16 +1,22 @@
-// Number 2: whether every known value is in its fact's range.
+// Number 2: whether every known value is in its fact's range, and every bit that is not known is stored as 0.
 use character_knowledge::Control;
 use character_knowledge::Knowledge;
 use character_knowledge::Pointing;
-use standing::all_within;
+use lamps::EIGHT;
+use lamps::SEVEN;
+use lamps::TWO;
+use lamps::all_sound;
+use lamps::lamps_sound;
 use standing::both_hold;
 use standing::within;
 ghost use mathlib.Core.Path.{_≡_};
+ghost use Prim.Native.Nat.{ℕ};
 ghost use lib.ListN.{length};
 ghost use Rattle.knowing.specs.Standing.{Within, Sound};
 ghost use Rattle.character.specs.Fact.{range};
-ghost use Rattle.standing.specs.View.{Tests};
-ghost use Rattle.standing.specs.Codes.{RowSound};
+ghost use Rattle.rules.specs.Tests.{Tests};
+ghost use Rattle.lamps.specs.Lamp.{Wide};
+ghost use Rattle.lamps.specs.Row.{LampsSound};
 ghost use Rattle.character_knowledge.specs.View.{blank, cview, kview, points};
 ghost use Rattle.character_ranges.specs.Ranges.{SinglesSound, OthersSound};
 
@@ -21,21 +27,21 @@ pub fn sound(k: Knowledge) -> bool
     let cgram = k.cgram;
     let adram = k.adram;
     let control = k.control;
-    let texts = both_hold(sixteen_sound(dcram, 256), sixteen_sound(adram, 4));
-    let memory = both_hold(texts, forty_sound(cgram, 128));
+    let texts = both_hold(sixteen_sound(dcram, EIGHT), sixteen_sound(adram, TWO));
+    let memory = both_hold(texts, forty_sound(cgram, SEVEN));
     both_hold(memory, singles_sound(control))
 }
 
-fn sixteen_sound(codes: [u16; 16], limit: u16) -> bool
-    ensures { λ r. ⌜ (Tests r (RowSound codes 16 limit)) × (length codes ≡ 16) ⌝ }
+fn sixteen_sound(codes: [u16; 16], wide: u16) -> bool
+    ensures { λ r. ⌜ ((w : ℕ) → Wide w wide → Tests r (LampsSound w codes 16)) × (length codes ≡ 16) ⌝ }
 {
-    all_within(&codes, 16, limit)
+    all_sound(&codes, 16, wide)
 }
 
-fn forty_sound(codes: [u16; 40], limit: u16) -> bool
-    ensures { λ r. ⌜ (Tests r (RowSound codes 40 limit)) × (length codes ≡ 40) ⌝ }
+fn forty_sound(codes: [u16; 40], wide: u16) -> bool
+    ensures { λ r. ⌜ ((w : ℕ) → Wide w wide → Tests r (LampsSound w codes 40)) × (length codes ≡ 40) ⌝ }
 {
-    all_within(&codes, 40, limit)
+    all_sound(&codes, 40, wide)
 }
 
 // The addresses, the column, the other settings and the position.
@@ -60,7 +66,7 @@ fn others_sound(c: Control) -> bool
     let lights = c.lights;
     let position = c.position;
     let codes = both_hold(
-        both_hold(within(port, 4), within(duty, 8)),
+        both_hold(lamps_sound(TWO, port), within(duty, 8)),
         within(digits, 8),
     );
     both_hold(codes, both_hold(within(lights, 3), within(position, 6)))

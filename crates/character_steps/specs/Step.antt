@@ -6,7 +6,7 @@ use Rattle.knowing.specs.Steps as Of
 use Rattle.knowing.specs.Ways as Ways
 use Rattle.changes.specs.declared.change.Change.the-variants.{Keep, Forget}
 use Rattle.changes.specs.Change.{seen, Inside, joined, Plain}
-use Rattle.character.specs.Fact.{Fact, same?, range}
+use Rattle.character.specs.Fact.{Fact, same?, range, textBits, columnBits, pairBits}
 use Rattle.character_knowledge.specs.declared.control.Control.{Control}
 use Rattle.character_knowledge.specs.View.{Memory, blank, cview}
 use Rattle.character_steps.specs.declared.steps.Step.{Step}
@@ -14,9 +14,9 @@ use Rattle.character_steps.specs.declared.steps.Step.{Step}
 -- What is known of the memory after a step.
 abbrev pub after : Step → Memory → Memory
 after r m = record {
-  dcram = λ i. seen (r .dcram) i (m .dcram i);
-  cgram = λ i. seen (r .cgram) i (m .cgram i);
-  adram = λ i. seen (r .adram) i (m .adram i);
+  dcram = λ i k. seen textBits (r .dcram) i k (m .dcram i k);
+  cgram = λ i k. seen columnBits (r .cgram) i k (m .cgram i k);
+  adram = λ i k. seen pairBits (r .adram) i k (m .adram i k);
 }
 
 -- What is known after a step, by what was known of the memory before it.

@@ -1,6 +1,6 @@
 -- Laws of steps: a control that keeps or forgets the memory is a step; a rule that looks at a known fact goes its one way; two steps that can be told
 -- together have in common, fact by fact, what both have; and a step done to the rows makes of a knowledge what the rule makes of it.
-use Prim.Native.Nat.{ℕ, suc}
+use Prim.Native.Nat.{ℕ}
 use mathlib.Core.Path.{_≡_, ap, _∙_, subst⁻¹}
 use mathlib.Core.List.{List}
 use Rattle.rules.specs.Rule.{Rule, look}
@@ -10,7 +10,7 @@ use Rattle.knowing.specs.Steps as Of
 use Rattle.knowing.specs.Ways as Ways
 use Rattle.changes.specs.declared.change.Change.{Change}
 use Rattle.changes.specs.Change.{seen, Changes, Inside, joined, Together, Plain}
-use Rattle.changes.specs.Together.{joined-seen, joined-inside, plain-together, together-plain, plain-joined}
+use Rattle.changes.specs.Together.{joined-seen, joined-inside, plain-together, plain-joined}
 use Rattle.character.specs.Fact.{Fact, same?, range, dcram, cgram, adram, dcramAt, cgramAt, adramAt, column, port, duty, digits, lights, position}
 use Rattle.character.specs.Laws.{every}
 use Rattle.character_knowledge.specs.declared.control.Control.{Control}
@@ -39,26 +39,23 @@ same-rule = Of.as-steps cview sview AllInside same? range
 abbrev pub AllTogether : Step → Step → Type 0
 AllTogether a b = Together (a .dcram) (b .dcram) × (Together (a .cgram) (b .cgram) × Together (a .adram) (b .adram))
 
--- They can where one of them is plain, RAM by RAM.
+-- They can where the first is plain, RAM by RAM.
 pub plain-first : (a b : Step) → AllPlain a → AllTogether a b
 plain-first a b p = (plain-together (a .dcram) (b .dcram) (p .0), (plain-together (a .cgram) (b .cgram) (p .1 .0), plain-together (a .adram) (b .adram) (p .1 .1)))
-
-pub plain-second : (a b : Step) → AllPlain b → AllTogether a b
-plain-second a b p = (together-plain (a .dcram) (b .dcram) (p .0), (together-plain (a .cgram) (b .cgram) (p .1 .0), together-plain (a .adram) (b .adram) (p .1 .1)))
 
 pub plain-both : (x y : Change) {z : Change} → z ≡ joined x y → Plain x → Plain y → Plain z
 plain-both x y e p q = subst⁻¹ (λ (c : Change). Plain c) e (plain-joined x y p q)
 
-both-joins : {a b r : Step} → AllTogether a b → Both a b r → (m : Memory) → Ways.Joins (sview m) a b r
+pub both-joins : {a b r : Step} → AllTogether a b → Both a b r → (m : Memory) → Ways.Joins (sview m) a b r
 both-joins {a} {b} {r} t h m =
     let e = h .control m in
     every (λ (f : Fact). sview m r f ≡ join (sview m a f) (sview m b f))
-    (λ i. ap (λ (x : Change). seen x i (m .dcram i)) (h .dcram) ∙ joined-seen (a .dcram) (b .dcram) (t .0) i (m .dcram i))
-    (λ i. ap (λ (x : Change). seen x i (m .cgram i)) (h .cgram) ∙ joined-seen (a .cgram) (b .cgram) (t .1 .0) i (m .cgram i))
-    (λ i. ap (λ (x : Change). seen x i (m .adram i)) (h .adram) ∙ joined-seen (a .adram) (b .adram) (t .1 .1) i (m .adram i))
-    (e dcramAt) (e cgramAt) (e adramAt) (e column) (e port) (e duty) (e digits) (e lights) (e position)
+    (λ i k. ap (λ (x : Change). seen 8 x i k (m .dcram i k)) (h .dcram) ∙ joined-seen 8 (a .dcram) (b .dcram) (t .0) i k (m .dcram i k))
+    (λ i k. ap (λ (x : Change). seen 7 x i k (m .cgram i k)) (h .cgram) ∙ joined-seen 7 (a .cgram) (b .cgram) (t .1 .0) i k (m .cgram i k))
+    (λ i k. ap (λ (x : Change). seen 2 x i k (m .adram i k)) (h .adram) ∙ joined-seen 2 (a .adram) (b .adram) (t .1 .1) i k (m .adram i k))
+    (e dcramAt) (e cgramAt) (e adramAt) (e column) (λ k. e (port k)) (e duty) (e digits) (e lights) (e position)
 
-both-inside : {a b r : Step} → Both a b r → AllInside a → AllInside b → AllInside r
+pub both-inside : {a b r : Step} → Both a b r → AllInside a → AllInside b → AllInside r
 both-inside {a} {b} {r} h p q = (
   subst⁻¹ (λ (x : Change). Inside 16 x) (h .dcram) (joined-inside 16 (a .dcram) (b .dcram) (p .0) (q .0)),
   (
@@ -81,18 +78,12 @@ module _ (g : Fact) (κ : ℕ → Rule Fact Fact) (c : Control) where
   pub goes : (v : ℕ) (l : Control) (r : Step) → ((m : Memory) → Ways.Learns (cview m) same? g v c l) → Steps (κ v) l r → Goes v r
   goes v l r = Of.goes cview sview AllInside same? range g κ c v l
 
-  pub first-step : (r : Step) → Goes 0 r → Gathered 1 r
-  first-step r = Of.step-first cview sview AllInside same? range g κ c
-
-  pub next-step : (n : ℕ) (a b r : Step) → Both a b r → AllTogether a b → Gathered (suc n) a → Goes (suc n) b → Gathered (suc (suc n)) r
-  next-step n a b r e t = Of.step-next cview sview AllInside same? range g κ c n (both-joins t e) (both-inside e)
-
   pub all-steps : (n : ℕ) (r : Step) → range g ≡ n → ((m : Memory) → cview m c g ≡ unknown) → Gathered n r → Steps (look g κ) c r
   all-steps n r = Of.step-all cview sview AllInside same? range g κ c n
 
 -- The step is done to the rows.
-pub applied : (rule : Rule Fact Fact) (k : Knowledge) (s : Step) (d g a : List ℕ) → Steps rule (k .control) s → Changes (s .dcram) (k .dcram) d → Changes (s .cgram) (k .cgram) g → Changes (s .adram) (k .adram) a
+pub applied : (rule : Rule Fact Fact) (k : Knowledge) (s : Step) (d g a : List ℕ) → Steps rule (k .control) s → Changes 8 (s .dcram) (k .dcram) d → Changes 7 (s .cgram) (k .cgram) g → Changes 2 (s .adram) (k .adram) a
     → Knows rule k (record { dcram = d; cgram = g; adram = a; control = s .control })
 applied rule k s d g a h p q r =
     let e = h .knows (memory k) in
-    every _ (λ i. p i ∙ e (dcram i)) (λ i. q i ∙ e (cgram i)) (λ i. r i ∙ e (adram i)) (e dcramAt) (e cgramAt) (e adramAt) (e column) (e port) (e duty) (e digits) (e lights) (e position)
+    every _ (λ i j. p i j ∙ e (dcram i j)) (λ i j. q i j ∙ e (cgram i j)) (λ i j. r i j ∙ e (adram i j)) (e dcramAt) (e cgramAt) (e adramAt) (e column) (λ k. e (port k)) (e duty) (e digits) (e lights) (e position)

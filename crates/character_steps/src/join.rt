@@ -1,6 +1,7 @@
 // What two such have in common.
 use character_knowledge::Control;
 use character_knowledge::Pointing;
+use lamps::both_lamps;
 use standing::both_standing;
 ghost use mathlib.Core.Path.{_≡_};
 ghost use Rattle.knowing.specs.Know.{join};
@@ -38,7 +39,7 @@ fn both_settings(a: Control, b: Control) -> Control
     let column = both_standing(a_column, b_column);
     let a_port = a.port;
     let b_port = b.port;
-    let port = both_standing(a_port, b_port);
+    let port = both_lamps(a_port, b_port);
     let a_duty = a.duty;
     let b_duty = b.duty;
     let duty = both_standing(a_duty, b_duty);

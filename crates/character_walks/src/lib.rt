@@ -10,6 +10,9 @@ use character_known::marked_on;
 use character_known::rises;
 use character_known::shown_on;
 use character_known::taken;
+use lamps::EIGHT;
+use lamps::SEVEN;
+use lamps::TWO;
 use pointing::place_of;
 use recording::Ending;
 use recording::Read;
@@ -45,15 +48,15 @@ pub fn character_walk(part: Part, k: Knowledge, bytes: &[u8]) -> CharacterWalked
                         let to = goes_to(control);
                         match to {
                             Target::Shown(cell) => {
-                                put(&mut dcram, cell, byte);
+                                put(&mut dcram, EIGHT, cell, byte);
                                 control = shown_on(control, cell);
                             }
                             Target::Drawn(character, column) => {
-                                put(&mut cgram, column_at(character, column), byte % 128);
+                                put(&mut cgram, SEVEN, column_at(character, column), byte);
                                 control = drawn_on(control, character, column);
                             }
                             Target::Marked(cell) => {
-                                put(&mut adram, cell, byte % 4);
+                                put(&mut adram, TWO, cell, byte);
                                 control = marked_on(control, cell);
                             }
                             Target::Elsewhere => control = taken(

@@ -18,7 +18,7 @@ addressSum sum c = taken (taken (taken sum (addressCode (c .«dcram_at»))) (add
 
 abbrev pub factSum : ℕ → Control → ℕ
 factSum sum c =
-    taken (taken (taken (taken (taken (taken sum (factCode (c .column))) (factCode (c .port))) (factCode (c .duty))) (factCode (c .digits))) (factCode (c .lights)))
+    taken (taken (taken (taken (taken (taken sum (factCode (c .column))) (c .port)) (factCode (c .duty))) (factCode (c .digits))) (factCode (c .lights)))
     (factCode (c .position))
 
 abbrev pub characterSum : ℕ → Knowledge → ℕ

@@ -32,7 +32,7 @@ switchSum sum Pt6315 switches = sum
 abbrev pub settingSum : ℕ → Control → ℕ
 settingSum sum c =
     taken (taken (taken (taken (taken (taken sum (factCode (c .«data»))) (factCode (c .stepping))) (factCode (c .mode))) (factCode (c .dimming))) (factCode (c .display)))
-    (factCode (c .led))
+    (c .led)
 
 abbrev pub inputSum : ℕ → Family → Control → ℕ
 inputSum sum family c = switchSum (keySum sum family (c .keys)) family (c .switches)

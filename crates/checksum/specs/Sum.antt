@@ -12,7 +12,8 @@ abbrev pub allTaken : ℕ → List ℕ → ℕ
 allTaken sum [] = sum
 allTaken sum (n ∷ rest) = allTaken (taken sum n) rest
 
--- What is known of one fact: its value, or 256.
+-- What is known of one fact that is known as a whole: its value, or 256. Of memory, LED and port the codes of `lamps` are
+-- taken, which have every known bit.
 abbrev pub factCode : Standing → ℕ
 factCode (Known value) = value
 factCode Unknown = 256

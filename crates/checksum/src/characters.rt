@@ -26,7 +26,7 @@ pub fn all(sum: Sum, k: Knowledge) -> Sum
     let position = c.position;
     addressed
         .fact(column)
-        .fact(port)
+        .take(port)
         .fact(duty)
         .fact(digits)
         .fact(lights)

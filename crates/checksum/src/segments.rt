@@ -30,7 +30,7 @@ pub fn all(sum: Sum, family: Family, k: Knowledge) -> Sum
         .fact(mode)
         .fact(dimming)
         .fact(display)
-        .fact(led);
+        .take(led);
     let pressed = c.keys;
     let latched = keys(set, sizes.keys, pressed);
     let switches = c.switches;

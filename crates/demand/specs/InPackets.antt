@@ -158,8 +158,8 @@ module _ (b : ℕ) (p : Part) (named : partOf b ≡ Is p) (s : Feed) (good : Goo
       (subst (λ (l : List ℕ). InTurn (knownOf p) (same? p) (range p) (move p) (events (walked p l)) (t .panel) (ending (started t) qs .feed .panel)) same (x .2 .known))
       (fine .in-range) more
 
-  -- Where the start knows all settings and the transfer position, and there is no gap and no undefined command, a memory cell is
-  -- known at the end exactly when every fitting chip ends with the same content there.
+  -- Where the start knows all settings and the transfer position, and there is no gap and no undefined command, each bit of a memory
+  -- cell is known at the end exactly when every fitting chip ends with the same content there.
   pub packets-cells-exact : StartKnows p (knownOf p (s .panel)) → hasGap (events (walked p whole)) ≡ false
       → NoUndefined (DefinedOn p) (startsFirst p (knownOf p (s .panel) (position p))) (events (walked p whole))
       → (f : Fact p) → IsMemory p f → (v : ℕ)

@@ -8,6 +8,7 @@ pub mod Tail
 pub mod Painting
 pub mod Update
 pub mod Met
+pub mod Everything
 pub mod Packets
 pub mod InPackets
 pub mod NoFour

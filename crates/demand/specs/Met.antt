@@ -2,11 +2,16 @@
 -- examples P1, P4 and P11 are such recordings. The argument: power sets every setting and the position; the rest computes.
 use Prim.Native.Nat.{ℕ}
 use native.Mathlib.Omega.{arith}
-use mathlib.Core.Path.{_≡_, refl, sym}
-use mathlib.Core.Bool.{true, false, true≢false}
+use mathlib.Core.Path.{_≡_, refl, sym, ap}
+use mathlib.Core.Bool.{Bool, true, false, true≢false}
 use mathlib.Core.List.{List, [], _∷_}
+use lib.Dec.{ltb}
+use borrow.Author.Tests.{ltb-true}
+use Rattle.rules.specs.Choice.{whether}
+use Rattle.rules.specs.Change.{keep}
+use Rattle.rules.specs.Touch.{bits-at}
 use Rattle.knowing.specs.Standing.{Standing}
-use Rattle.knowing.specs.Know.{know}
+use Rattle.knowing.specs.Know.{know, lifted}
 use Rattle.terms.specs.declared.Event.the-variants.{Power}
 use Rattle.terms.specs.declared.Part.{Part}
 use Rattle.terms.specs.declared.Part.the-variants.{Pt6302, Pt6312, Pt6315}
@@ -22,35 +27,45 @@ use Rattle.parts.specs.Facts.{Fact, same?, range, move}
 use Rattle.whole.specs.Sentence.{IsKnown, position, StartKnows, hasGap, DefinedOn, NoUndefined, startsFirst}
 use Rattle.demand.specs.Recording.{eventsFrom}
 
-no-segment-setting : Segment.memory ≡ Segment.setting → ⊥
+pub no-segment-setting : Segment.memory ≡ Segment.setting → ⊥
 no-segment-setting e =
     let z : _≡_ {A = ℕ} 0 1 = cc in
     omega arith
 
-no-input-setting : Segment.input ≡ Segment.setting → ⊥
+pub no-input-setting : Segment.input ≡ Segment.setting → ⊥
 no-input-setting e =
     let z : _≡_ {A = ℕ} 0 1 = cc in
     omega arith
 
-no-character-setting : Character.memory ≡ Character.setting → ⊥
+pub no-character-setting : Character.memory ≡ Character.setting → ⊥
 no-character-setting e =
     let z : _≡_ {A = ℕ} 0 1 = cc in
     omega arith
 
+-- A bit that is a setting is one of the LED's four, or of the port's two.
+pub led-set : (t : Bool) → whether t Segment.setting Segment.memory ≡ Segment.setting → t ≡ true
+led-set true e = refl
+led-set false e = absurd (no-segment-setting e)
+
+pub port-set : (t : Bool) → whether t Character.setting Character.memory ≡ Character.setting → t ≡ true
+port-set true e = refl
+port-set false e = absurd (no-character-setting e)
+
 powered-segment : (q : Family) (k : Segment.Fact → Standing) (f : Segment.Fact) → Segment.sort f ≡ Segment.setting
     → IsKnown (know Segment.same? (Segment.range (sizes q)) (SegmentMove.move (sizes q) Power) k f)
 powered-segment q k =
-    SegmentLaws.every _ (λ i e. absurd (no-segment-setting e)) (λ e. (_, refl)) (λ e. (_, refl)) (λ e. (_, refl))
-    (λ e. (_, refl)) (λ e. (_, refl)) (λ e. (_, refl)) (λ e. (_, refl))
+    SegmentLaws.every _ (λ i j e. absurd (no-segment-setting e)) (λ e. (_, refl)) (λ e. (_, refl)) (λ e. (_, refl))
+    (λ e. (_, refl)) (λ e. (_, refl)) (λ e. (_, refl))
+    (λ j e. (_, ap (lifted k) (bits-at Segment.same? Segment.led SegmentLaws.leds-apart 4 (sizes q .led) keep j (ltb-true j 4 (led-set (ltb j 4) e)))))
     (λ i e. absurd (no-input-setting e)) (λ e. absurd (no-input-setting e)) (λ e. (_, refl)) (λ e. (_, refl))
 
 -- After power, whatever was known before, the settings and the position are known.
 pub powered-knows : (p : Part) (k : Fact p → Standing) → StartKnows p (know (same? p) (range p) (move p Power) k)
 powered-knows Pt6302 k = record {
   settings =
-      CharacterLaws.every _ (λ i e. absurd (no-character-setting e)) (λ i e. absurd (no-character-setting e))
-      (λ i e. absurd (no-character-setting e)) (λ e. (_, refl)) (λ e. (_, refl)) (λ e. (_, refl)) (λ e. (_, refl))
-      (λ e. (_, refl)) (λ e. (_, refl)) (λ e. (_, refl)) (λ e. (_, refl)) (λ e. (_, refl));
+      CharacterLaws.every _ (λ i j e. absurd (no-character-setting e)) (λ i j e. absurd (no-character-setting e))
+      (λ i j e. absurd (no-character-setting e)) (λ e. (_, refl)) (λ e. (_, refl)) (λ e. (_, refl)) (λ e. (_, refl))
+      (λ j e. (_, ap (lifted k) (bits-at Character.same? Character.port CharacterLaws.ports-apart 2 0 keep j (ltb-true j 2 (port-set (ltb j 2) e))))) (λ e. (_, refl)) (λ e. (_, refl)) (λ e. (_, refl)) (λ e. (_, refl));
   position-known = (_, refl);
 }
 powered-knows Pt6312 k = record { settings = powered-segment OfFamily.Pt6312 k; position-known = (_, refl) }

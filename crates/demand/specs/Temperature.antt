@@ -7,6 +7,8 @@ use mathlib.Core.Bool.{true}
 use mathlib.Core.List.{List, [], _∷_}
 use lib.IntN.{ℤ, negsuc}
 use Rattle.rules.specs.Rule.{Rule}
+use Rattle.rules.specs.Digit.{digit}
+use Rattle.rules.specs.Change.{setBits}
 use Rattle.rules.specs.Range.{Good}
 use Rattle.rules.specs.Turn.{Ends}
 use Rattle.knowing.specs.Standing.{Standing, Agrees}
@@ -67,5 +69,5 @@ shownBehind =
 
 pub reading-can-be : (k : Fact → Standing) → (hasGap (eventsFrom Pt6302 0 shownBehind) ≡ true) × (endOf (walked Pt6302 shownBehind) ≡ Done)
     × (temperatureOf (inTurn same? range (movesFrom Pt6302 0 shownBehind) k) 0 ≡ reading (negsuc 14))
-unfolding ℕ-discrete
+unfolding ℕ-discrete setBits digit
 reading-can-be k = (refl, refl, refl)

@@ -3,15 +3,18 @@
 -- and the knowledge to what is known then.
 use Prim.Native.Nat.{ℕ, _+_, _<_, _≤_}
 use native.Mathlib.Omega.{arith}
-use mathlib.Core.Path.{_≡_, sym, ap, _∙_, subst, subst⁻¹}
-use mathlib.Core.Bool.{true}
+use mathlib.Core.Path.{_≡_, refl, sym, ap, _∙_, subst, subst⁻¹}
+use mathlib.Core.Bool.{Bool, true, false}
 use mathlib.Core.List.{List, [], _++_, map}
 use lib.ListN.{length, take, drop}
 use lib.Seq.{take-at}
-use lib.Dec.{eqb}
+use lib.Dec.{eqb, ltb}
 use Rattle.rules.specs.Choice.{whether}
+use Rattle.rules.specs.Digit.{digit}
 use Rattle.rules.specs.Where.{good, bad}
 use Rattle.knowing.specs.Standing.{Standing, Sound, Fits}
+use Rattle.knowing.specs.Holds.{holds}
+use Rattle.knowing.specs.Bytes.{holds-tests}
 use Rattle.knowing.specs.Turn.{inTurn}
 use Rattle.terms.specs.declared.Event.{Event}
 use Rattle.terms.specs.Event.{recording}
@@ -45,7 +48,8 @@ use Rattle.runs.specs.Count.{bytesIn}
 use Rattle.updating.specs.declared.Updated.{Updated}
 use Rattle.updating.specs.Answer.{number, place, count, Sent, streamOf, countOf, UpdatesSegment, UpdatesPart, Updates}
 use Rattle.updating.specs.Longest.{most-bytes}
-use Rattle.updated.specs.ByPart.{HasRing, cellsOf, differsFor, differingFor, startsFor, settingFor, updateFor, updatedBy, knownFor, WrittenOn, update-bytes, counts, leads, writes, knows, reads}
+use Rattle.runs.specs.Runs.{wanted}
+use Rattle.updated.specs.ByPart.{HasRing, cellsOf, cellIn, differsFor, differingFor, startsFor, settingFor, updateFor, updatedBy, knownFor, WrittenOn, update-bytes, counts, leads, writes, knows, reads, spelt}
 use Rattle.updating.specs.Update.{differing, updateEvents}
 use Rattle.updating.specs.Updated.{updated}
 use Rattle.updated.specs.Leads as Leads
@@ -183,6 +187,13 @@ module _ (b : ℕ) (p : Part) (named : partOf b ≡ Is p) (k : Panel) (w out : L
           d .kept,
         )
 
+    -- So every cell is then known to hold its wanted byte.
+    pub update-holds : (x : HasRing p) (q : Replayed) → Replays (partOf b) k stream 0 q → (i : ℕ) → i < cellsOf p
+        → holds 8 (λ j. knownOf p (q .panel) (cellIn p x i j)) (wanted w i) ≡ true
+    update-holds x q again i h =
+        holds-tests 8 _ (wanted w i) .back
+        (λ j l. update-replays q again .2 (cellIn p x i j) ∙ spelt p x (knownOf p k) w i h j l)
+
 -- What is memory is no setting, input or position.
 no-setting : Segment.setting ≡ Segment.memory → ⊥
 no-setting e = let z : _≡_ {A = ℕ} 0 1 = cc in omega arith
@@ -193,13 +204,18 @@ no-input e = let z : _≡_ {A = ℕ} 0 1 = cc in omega arith
 no-transfer : Segment.transfer ≡ Segment.memory → ⊥
 no-transfer e = let z : _≡_ {A = ℕ} 0 1 = cc in omega arith
 
+-- A bit past the LED's nibble is as it was.
+past-nibble : (t : Bool) (v u : ℕ) → whether t Segment.setting Segment.memory ≡ Segment.memory → u ≡ whether t v u
+past-nibble true v u m = absurd (no-setting m)
+past-nibble false v u m = refl
+
 painted-alike : (q : Family) (k : Segment.Fact → Standing) (pic : SegmentPicture) (c : Segment.Fact → ℕ) (f : Segment.Fact) → Segment.sort f ≡ Segment.memory
     → updated (sizes q) k (pic .cells) c f ≡ painted (sizes q) pic c f
 painted-alike q k pic c =
     every (λ (f : Segment.Fact). Segment.sort f ≡ Segment.memory → updated (sizes q) k (pic .cells) c f ≡ painted (sizes q) pic c f)
-    (λ i m. Leads.as-painted q k pic c i)
+    (λ i j m. Leads.as-painted q k pic c i j)
     (λ m. absurd (no-setting m)) (λ m. absurd (no-setting m)) (λ m. absurd (no-setting m)) (λ m. absurd (no-setting m)) (λ m. absurd (no-setting m))
-    (λ m. absurd (no-setting m)) (λ m. absurd (no-setting m)) (λ i m. absurd (no-input m)) (λ m. absurd (no-input m)) (λ m. absurd (no-setting m))
+    (λ m. absurd (no-setting m)) (λ j m. past-nibble (ltb j 4) (digit j (pic .led)) (c (Segment.led j)) m) (λ i m. absurd (no-input m)) (λ m. absurd (no-input m)) (λ m. absurd (no-setting m))
     (λ m. absurd (no-transfer m))
 
 -- The memory of the updated chip is that of the painted one, for any picture that has these cells.

@@ -1,6 +1,8 @@
 // What is known of a PT6302 panel, in words.
 use crate::codes;
 use crate::codes::code;
+use crate::codes::lamps_code;
+use crate::codes::partly;
 use character_knowledge::Control;
 use character_knowledge::Knowledge;
 use character_knowledge::Pointing;
@@ -11,11 +13,11 @@ use example_text::show_facts;
 pub fn show_characters(k: Knowledge, all: bool) {
     let row = codes_of(k.control);
     if all {
-        control(row, true);
+        control(row, k.control.port, true);
         memory(k, b';');
     } else {
         memory(k, b',');
-        control(row, false);
+        control(row, k.control.port, false);
     }
 }
 
@@ -35,7 +37,7 @@ fn codes_of(c: Control) -> [u16; 10] {
         address(cgram),
         code(column),
         address(adram),
-        code(port),
+        lamps_code(port, 0x03),
         code(duty),
         code(digits),
         code(lights),
@@ -51,12 +53,18 @@ fn address(to: Pointing) -> u16 {
 }
 
 // The names stand in the order of the numbers that `character_knowledge` gives them.
-fn control(codes: [u16; 10], all: bool) {
+fn control(codes: [u16; 10], port: u16, all: bool) {
+    facts(codes, 0, 6, all);
+    partly(port, 0x03);
+    facts(codes, 6, 9, all);
+}
+
+fn facts(codes: [u16; 10], from: usize, to: usize, all: bool) {
     show_facts(
         b"\n    |position /idle/first byte/to DCRAM/to CGRAM/to ADRAM/ignoring;, |DCRAM at ;, |CGRAM at ;, |column ;, |ADRAM at ;\n    |port ;, |duty ;, |digits ;, |lights /normal/off/on",
         codes,
-        0,
-        9,
+        from,
+        to,
         all,
     );
 }
@@ -64,11 +72,11 @@ fn control(codes: [u16; 10], all: bool) {
 // The RAMs stand on one line, with a mark between them.
 fn memory(k: Knowledge, mark: u8) {
     let dcram = k.dcram;
-    codes::runs(b"\n    DCRAM", &dcram, 16);
+    codes::runs(b"\n    DCRAM", 0xFF, &dcram, 16);
     character(mark);
     let cgram = k.cgram;
-    codes::runs(b" CGRAM", &cgram, 40);
+    codes::runs(b" CGRAM", 0x7F, &cgram, 40);
     character(mark);
     let adram = k.adram;
-    codes::runs(b" ADRAM", &adram, 16);
+    codes::runs(b" ADRAM", 0x03, &adram, 16);
 }

@@ -1,6 +1,8 @@
 // What is known of a PT6312 or PT6315 panel, in words. What the part lacks is not shown.
 use crate::codes;
 use crate::codes::code;
+use crate::codes::lamps_code;
+use crate::codes::partly;
 use example_text::show_facts;
 use segment_knowledge::Control;
 use segment_knowledge::Knowledge;
@@ -20,15 +22,19 @@ fn show(k: Knowledge, some_cells: usize, some_keys: usize, some_facts: usize, al
     let row = codes_of(k.control);
     let memory = k.cells;
     let pressed = k.control.keys;
+    let led = k.control.led;
     if all {
         control(row, 0, 9, true);
+        partly(led, 0x0F);
         keys(pressed, some_keys);
         control(row, 9, some_facts, true);
         cells(memory, some_cells);
     } else {
         cells(memory, some_cells);
         keys(pressed, some_keys);
-        control(row, 0, some_facts, false);
+        control(row, 0, 9, false);
+        partly(led, 0x0F);
+        control(row, 9, some_facts, false);
     }
 }
 
@@ -52,7 +58,7 @@ fn codes_of(c: Control) -> [u16; 10] {
         code(mode),
         code(dimming),
         code(display),
-        code(led),
+        lamps_code(led, 0x0F),
         code(switches),
     ]
 }
@@ -81,5 +87,5 @@ fn keys(keys: [u16; 4], count: usize) {
 }
 
 fn cells(cells: [u16; 36], count: usize) {
-    codes::runs(b"\n    cells", &cells, count);
+    codes::runs(b"\n    cells", 0xFF, &cells, count);
 }

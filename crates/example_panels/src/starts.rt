@@ -1,4 +1,4 @@
-// What examples start from: a panel in the middle of writing, with a value that shows in every fact.
+// What examples start from: a panel in the middle of writing, with a value that shows in every fact. Memory, LED and port have all their marks.
 use panel::Panel;
 use standing::Standing;
 use terms::Address;
@@ -13,7 +13,7 @@ pub fn all_known() -> Panel {
 
 fn known_segments() -> segment_knowledge::Knowledge {
     segment_knowledge::Knowledge {
-        cells: [0x6E; 36],
+        cells: [0xFF6E; 36],
         control: segment_knowledge::Control {
             address: segment_knowledge::Pointing::At(Address(5)),
             data: Standing::Known(segment_knowledge::WRITE_DISPLAY),
@@ -21,7 +21,7 @@ fn known_segments() -> segment_knowledge::Knowledge {
             mode: Standing::Known(3),
             dimming: Standing::Known(5),
             display: Standing::Known(segment_knowledge::ON),
-            led: Standing::Known(9),
+            led: 0x0F09,
             keys: [0xA1, 0xA2, 0xA3, 0xA4],
             switches: Standing::Known(6),
             count: Standing::Known(2),
@@ -32,15 +32,15 @@ fn known_segments() -> segment_knowledge::Knowledge {
 
 fn known_characters() -> character_knowledge::Knowledge {
     character_knowledge::Knowledge {
-        dcram: [0x6E; 16],
-        cgram: [0x6E; 40],
-        adram: [2; 16],
+        dcram: [0xFF6E; 16],
+        cgram: [0x7F6E; 40],
+        adram: [0x0302; 16],
         control: character_knowledge::Control {
             dcram_at: character_knowledge::Pointing::At(Address(5)),
             cgram_at: character_knowledge::Pointing::At(Address(6)),
             adram_at: character_knowledge::Pointing::At(Address(7)),
             column: Standing::Known(3),
-            port: Standing::Known(2),
+            port: 0x0302,
             duty: Standing::Known(5),
             digits: Standing::Known(4),
             lights: Standing::Known(character_knowledge::ON),

@@ -1,5 +1,6 @@
 // What a word says of PT6302.
-use crate::tells::code_told;
+use crate::tells::lamps_tell;
+use crate::tells::lamps_told;
 use crate::tells::tells;
 use character_knowledge::Control;
 use character_knowledge::Knowledge;
@@ -16,9 +17,9 @@ pub fn told_characters(k: Knowledge, word: Word) -> Knowledge {
     let mut dcram = k.dcram;
     let mut cgram = k.cgram;
     let mut adram = k.adram;
-    code_told(&mut dcram, b't', word);
-    code_told(&mut cgram, b's', word);
-    code_told(&mut adram, b'm', word);
+    lamps_told(&mut dcram, 0xFF, b't', word);
+    lamps_told(&mut cgram, 0x7F, b's', word);
+    lamps_told(&mut adram, 0x03, b'm', word);
     Knowledge {
         dcram,
         cgram,
@@ -42,7 +43,7 @@ fn control_told(c: Control, word: Word) -> Control {
         cgram_at: address_told(word, b'g', cgram_at),
         adram_at: address_told(word, b'a', adram_at),
         column: tells(word, b'c', column),
-        port: tells(word, b'o', port),
+        port: lamps_tell(word, b'o', 0x03, port),
         duty: tells(word, b'b', duty),
         digits: tells(word, b'w', digits),
         lights: tells(word, b'l', lights),

@@ -1,5 +1,7 @@
 // What a word says of PT6312 or PT6315.
 use crate::tells::code_told;
+use crate::tells::lamps_tell;
+use crate::tells::lamps_told;
 use crate::tells::tells;
 use example_text::Word;
 use segment_knowledge::Control;
@@ -23,10 +25,10 @@ pub fn told_segments(k: Knowledge, word: Word) -> Knowledge {
 
 fn cells_told(cells: [u16; 36], word: Word) -> [u16; 36] {
     if word.name == b'e' {
-        return [word.code(); 36];
+        return [word.lamps(0xFF); 36];
     }
     let mut new = cells;
-    code_told(&mut new, b'c', word);
+    lamps_told(&mut new, 0xFF, b'c', word);
     new
 }
 
@@ -50,7 +52,7 @@ fn control_told(c: Control, word: Word) -> Control {
         mode: tells(word, b'm', mode),
         dimming: tells(word, b'b', dimming),
         display: tells(word, b'o', display),
-        led: tells(word, b'l', led),
+        led: lamps_tell(word, b'l', 0x0F, led),
         keys,
         switches: tells(word, b's', switches),
         count: tells(word, b'r', count),

@@ -46,7 +46,7 @@ fn put(row: &mut [u16; 16], start: u8, bytes: &[u8]) {
 fn store(row: &mut [u16; 16], at: usize, code: u16) {
     if at < 16 {
         if code < 256 {
-            row[at] = code;
+            row[at] = 0xFF00 | code;
         }
     }
 }

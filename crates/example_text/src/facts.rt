@@ -1,5 +1,5 @@
-// Facts, in words. A fact's code is the number that it is known as; 256 where it is unknown; 257 where it is invalid; and 512 more than an address,
-// since what is known of addresses is shown in hex.
+// Facts, in words. A fact's code is the number that it is known as; 256 where it is unknown; 257 where it is invalid; 258 where
+// only its title is written, since who asks writes its bits behind it; and 512 more than an address, since what is known of addresses is shown in hex.
 //
 // A row of facts has its words in one text, with a ; between facts: what leads up to the fact, a |, its title, and a / before the name of each of its
 // numbers from 0 on. A number that has no name is written in decimal.
@@ -53,6 +53,7 @@ fn unnamed(code: u16) {
     match code {
         256 => text(b"unknown"),
         257 => text(b"invalid"),
+        258 => {}
         _ => hex((code % 256) as u8),
     }
 }

@@ -7,7 +7,7 @@ use answers::Trial;
 use panel_ranges::in_range;
 use terms::Part;
 use terms::Place;
-ghost use Rattle.standing.specs.View.{Tests};
+ghost use Rattle.rules.specs.Tests.{Tests};
 ghost use Rattle.feed.specs.Feed.{Good};
 ghost use Rattle.feed.specs.Tests.{Tries};
 

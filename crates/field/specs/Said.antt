@@ -1,6 +1,5 @@
 -- What may be told of a temperature field (paper 02, M-103): "a reading in half degrees", "no reading", "dark",
 -- "unknown" or "not a reading".
-use Prim.Native.Nat.{ℕ}
 use lib.IntN.{ℤ}
 use Rattle.half_degrees.specs.Half.{signed}
 use Rattle.field.specs.declared.spelling.Field.{Field}

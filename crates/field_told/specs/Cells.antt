@@ -11,13 +11,17 @@ use lib.Seq.{getD-set-same, getD-set-other}
 use Rattle.knowing.specs.Standing as Of
 use Rattle.knowing.specs.Standing.{Standing}
 use Rattle.standing.specs.declared.standing.Standing.{Standing as Single}
-use Rattle.standing.specs.View.{stands, byteCoded}
-use Rattle.standing.specs.Codes.{default-free}
+use Rattle.standing.specs.View.{stands}
+use Rattle.lamps.specs.Whole.{whole}
 use Rattle.field.specs.declared.spelling.Five.{Five}
 use Rattle.field_told.specs.declared.cells.Row.{Row}
 use Rattle.field_told.specs.declared.cells.Row.the-variants.{Known, Unknown}
 use Rattle.field.specs.Said.{Said, unknown}
 use Rattle.field.specs.Field.{ifKnown, ifAll}
+
+-- The byte that number i of a row of codes is of; a cell with any bit unknown counts as unknown (M-107).
+abbrev pub byteAt : List ℕ → ℕ → Standing
+byteAt codes i = whole 8 (getD codes i 0)
 
 abbrev pub byRow : Row → (Five → Said) → Said
 byRow (Known five) rest = rest five
@@ -80,24 +84,24 @@ module _ (cell : ℕ → Standing) (start : ℕ) (rest : Five → Said) where
   no-cell (suc (suc (suc (suc (suc i))))) h u = absurd (omega arith)
 
 -- What was read of a code is what is known of its cell.
-pub cell-is : (codes : List ℕ) (i : ℕ) (r w : Single) → i < length codes → stands r ≡ byteCoded (getD codes i 0) → r ≡ w → byteCoded (getD codes i 256) ≡ stands w
-cell-is codes i r w h e g = ap byteCoded (default-free codes i 256 0 h) ∙ sym e ∙ ap stands g
+pub cell-is : (codes : List ℕ) (i : ℕ) (r w : Single) → stands r ≡ byteAt codes i → r ≡ w → byteAt codes i ≡ stands w
+cell-is codes i r w e g = sym e ∙ ap stands g
 
 -- The first i of five bytes are those that the first i cells from `start` on are known to hold.
 pub record Read (codes : List ℕ) (start i : ℕ) (bytes : List ℕ) : Type 0 where
   pub size : length bytes ≡ 5
-  pub held : (j : ℕ) → j < i → byteCoded (getD codes (start + j) 256) ≡ Of.known (getD bytes j 0)
+  pub held : (j : ℕ) → j < i → byteAt codes (start + j) ≡ Of.known (getD bytes j 0)
 
 module _ (codes : List ℕ) (start : ℕ) where
   pub read-none : (bytes : List ℕ) → length bytes ≡ 5 → Read codes start 0 bytes
   read-none bytes e = record { size = e; held = λ j h. absurd (omega arith) }
 
   -- One byte more.
-  pub read-more : (i : ℕ) (bytes : List ℕ) (b : ℕ) → i < 5 → Read codes start i bytes → byteCoded (getD codes (start + i) 256) ≡ Of.known b
+  pub read-more : (i : ℕ) (bytes : List ℕ) (b : ℕ) → i < 5 → Read codes start i bytes → byteAt codes (start + i) ≡ Of.known b
       → Read codes start (i + 1) (set bytes i b)
   read-more i bytes b h r e = record { size = length-set bytes i b ∙ r .size; held = λ j l. go j l (ℕ-discrete j i) }
     where
-      go : (j : ℕ) → j < i + 1 → Dec (j ≡ i) → byteCoded (getD codes (start + j) 256) ≡ Of.known (getD (set bytes i b) j 0)
+      go : (j : ℕ) → j < i + 1 → Dec (j ≡ i) → byteAt codes (start + j) ≡ Of.known (getD (set bytes i b) j 0)
       go j l (yes p) =
           let within : i < length bytes = let s = r .size in omega arith in
           rw p (e ∙ ap Of.known (sym (getD-set-same bytes i b 0 within)))
@@ -106,7 +110,7 @@ module _ (codes : List ℕ) (start : ℕ) where
   -- All five: the rest is told of them.
   pub read-all : (bytes : List ℕ) (rest : Five → Said) → Read codes start 5 bytes
       → rest (record { sign = getD bytes 0 0; tens = getD bytes 1 0; units = getD bytes 2 0; point = getD bytes 3 0; half = getD bytes 4 0 })
-      ≡ ifAll (λ i. byteCoded (getD codes i 256)) start rest
+      ≡ ifAll (byteAt codes) start rest
   read-all bytes rest r =
-      let first = subst (λ (k : ℕ). byteCoded (getD codes k 256) ≡ Of.known (getD bytes 0 0)) (add-zero start) (r .held 0 (omega arith)) in
-      sym (all-known (λ i. byteCoded (getD codes i 256)) start rest _ first (r .held 1 (omega arith)) (r .held 2 (omega arith)) (r .held 3 (omega arith)) (r .held 4 (omega arith)))
+      let first = subst (λ (k : ℕ). byteAt codes k ≡ Of.known (getD bytes 0 0)) (add-zero start) (r .held 0 (omega arith)) in
+      sym (all-known (byteAt codes) start rest _ first (r .held 1 (omega arith)) (r .held 2 (omega arith)) (r .held 3 (omega arith)) (r .held 4 (omega arith)))

@@ -1,16 +1,15 @@
 // Five cells in a row, where all are known.
 use field::Five;
 use standing::Standing;
-use standing::byte_in;
 use terms::Address;
 ghost use mathlib.Core.Path.{_≡_};
 ghost use Prim.Native.Nat.{_≤_};
-ghost use lib.ListN.{getD};
-ghost use Rattle.standing.specs.View.{byteCoded};
+ghost use Rattle.standing.specs.View.{stands};
+ghost use Rattle.lamps.specs.Whole.{whole};
 ghost use Rattle.field.specs.declared.spelling.Five.{Five};
 ghost use Rattle.field.specs.Said.{Said};
 ghost use Rattle.field.specs.Field.{ifAll};
-ghost use Rattle.field_told.specs.Cells.{byRow};
+ghost use Rattle.field_told.specs.Cells.{byRow, byteAt};
 
 pub enum Row {
     Known(Five),
@@ -20,7 +19,7 @@ pub enum Row {
 // The five cells from the start on.
 pub fn five_at(dcram: [u16; 16], start: Address) -> Row
     requires { ⌜ start .0 ≤ 11 ⌝ }
-    ensures { λ r. ⌜ ((rest : Five → Said) → byRow r rest ≡ ifAll (λ i. byteCoded (getD dcram i 256)) (start .0) rest) ⌝ }
+    ensures { λ r. ⌜ ((rest : Five → Said) → byRow r rest ≡ ifAll (byteAt dcram) (start .0) rest) ⌝ }
 {
     let mut bytes = [0u8; 5];
     let mut i = 0;
@@ -39,4 +38,14 @@ pub fn five_at(dcram: [u16; 16], start: Address) -> Row
         point: bytes[3],
         half: bytes[4],
     })
+}
+
+// The byte that a cell is known to hold: a cell with any bit unknown counts as unknown (M-107).
+fn byte_in(code: u16) -> Standing
+    ensures { λ r. ⌜ stands r ≡ whole 8 code ⌝ }
+{
+    if code < 0xFF00 {
+        return Standing::Unknown;
+    }
+    Standing::Known((code % 256) as u8)
 }

@@ -8,16 +8,15 @@ use standing::Standing;
 use terms::Address;
 ghost use mathlib.Core.Path.{_≡_};
 ghost use Prim.Native.Nat.{_≤_};
-ghost use lib.ListN.{getD};
-ghost use Rattle.standing.specs.View.{stands, byteCoded};
+ghost use Rattle.standing.specs.View.{stands};
 ghost use Rattle.field.specs.Said.{said};
 ghost use Rattle.field.specs.Field.{told};
-ghost use Rattle.field_told.specs.Cells.{eitherUnknown};
+ghost use Rattle.field_told.specs.Cells.{byteAt, eitherUnknown};
 
 // Dark is tested first, then whether all is known, then what the cells spell.
 pub fn tell(lights: Standing, digits: Standing, dcram: [u16; 16], start: Address) -> Field
     requires { ⌜ start .0 ≤ 11 ⌝ }
-    ensures { λ r. ⌜ said r ≡ told (stands lights) (stands digits) (λ i. byteCoded (getD dcram i 256)) (start .0) ⌝ }
+    ensures { λ r. ⌜ said r ≡ told (stands lights) (stands digits) (byteAt dcram) (start .0) ⌝ }
 {
     let dark = is_dark(lights, digits, start);
     let unknown = either_unknown(lights, digits);

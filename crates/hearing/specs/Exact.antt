@@ -5,9 +5,12 @@ use Prim.Native.Nat.{ℕ, zero, suc}
 use native.Mathlib.Omega.{arith}
 use mathlib.Core.Path.{_≡_, sym, _∙_, subst}
 use mathlib.Core.List.{List}
+use Rattle.rules.specs.Rule.{Rule}
 use Rattle.rules.specs.Turn.{Result}
 use Rattle.rules.specs.Range.{Good}
-use Rattle.knowing.specs.Standing.{known, Fits, Sound}
+use Rattle.rules.specs.Digit.{digit}
+use Rattle.knowing.specs.Standing.{Standing, known, Fits, Sound}
+use Rattle.knowing.specs.Bytes.{Spells, HasByte}
 use Rattle.knowing.specs.Moves.{AllHave}
 use Rattle.knowing.specs.Event.{event-exact, event-fits, event-sound}
 use Rattle.terms.specs.declared.Event.{Event}
@@ -28,6 +31,11 @@ use Rattle.panel.specs.View.{knownOf}
 use Rattle.hearing_answer.specs.Answer.{number, recordNumber, eventNumber}
 use Rattle.hearing.specs.Event.{RefusedBy, EventDone, HeardBy, HearsPart, Hears}
 use Rattle.hearing.specs.Laws.{hears-as}
+
+-- All results of all good fitting chips have the byte in these w bits.
+abbrev pub AllHaveByte : {F : Type 0} → (F → ℕ) → Rule F F → (F → Standing) → (ℕ → F) → ℕ → ℕ → Type 0
+AllHaveByte {F} range rule k bits w byte =
+    (c : F → ℕ) → Good range c → Fits k c → (x : F → ℕ) → Result range rule c x → HasByte w (λ j. x (bits j)) byte
 
 module _ (b : ℕ) (p : Part) (named : partOf b ≡ Is p) (e : Event) (k : Panel) (r : Heard)
     (met : Hears (partOf b) e k r) where
@@ -59,6 +67,16 @@ module _ (b : ℕ) (p : Part) (named : partOf b ≡ Is p) (e : Event) (k : Panel
         × (AllHave (range p) (move p e) (knownOf p k) f v → knownOf p (r .panel) f ≡ known v)
     heard-exact =
         event-exact (knownOf p) (same? p) (range p) (two p) (move p e) k (r .panel) (done .1 .after .known) (done .0)
+
+    -- So a whole cell, LED or port, whose bits are these w facts, is known to hold a byte exactly when every result of
+    -- every fitting chip has that byte there.
+    pub heard-byte-exact : (bits : ℕ → Fact p) (w byte : ℕ)
+        → (Spells w (λ j. knownOf p (r .panel) (bits j)) byte → AllHaveByte (range p) (move p e) (knownOf p k) bits w byte)
+        × (AllHaveByte (range p) (move p e) (knownOf p k) bits w byte → Spells w (λ j. knownOf p (r .panel) (bits j)) byte)
+    heard-byte-exact bits w byte = (
+      λ s c good fits x made j h. heard-exact (bits j) (digit j byte) .0 (s j h) c good fits x made,
+      λ all j h. heard-exact (bits j) (digit j byte) .1 (λ c good fits x made. all c good fits x made j h),
+    )
 
     -- A chip that fitted fits, whichever of its results it has become.
     pub heard-fits : (c : Fact p → ℕ) → Good (range p) c → Fits (knownOf p k) c

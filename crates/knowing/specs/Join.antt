@@ -137,6 +137,16 @@ join-again s t =
     (λ v e. join-known (join s t) t v e .0)
     (λ v e. join-both (join s t) t v e (join-known s t v e .1))
 
+-- Of three ways the second may come last.
+pub join-late : (s t u : Standing) → join (join s t) u ≡ join (join s u) t
+join-late s t u = same-standing (join (join s t) u) (join (join s u) t) (late s t u) (late s u t)
+  where
+    late : (s t u : Standing) (v : ℕ) → join (join s t) u ≡ known v → join (join s u) t ≡ known v
+    late s t u v e =
+        let h = join-known (join s t) u v e in
+        let g = join-known s t v (h .0) in
+        join-both (join s u) t v (join-both s u v (g .0) (h .1)) (g .1)
+
 -- A way has in common with itself what it has.
 pub join-itself : (s : Standing) → join s s ≡ s
 unfolding join

@@ -1,5 +1,6 @@
 pub mod Standing
 pub mod Holds
+pub mod Bytes
 pub mod Know
 pub mod Join
 pub mod Fill

@@ -1,2 +1,3 @@
 pub mod Memory
 pub mod Lengths
+pub mod Known

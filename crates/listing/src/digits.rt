@@ -38,14 +38,14 @@ fn segments(out: &mut [u8], at: usize, width: u8, n: u8, cells: [u16; 36]) -> us
     ensures { λ r. ⌜ (Writes (now (out .entry)) at (Of·digits width n cells) r (now (out .exit)))
         × (length (Of·digits width n cells) ≤ 254) ⌝ }
 {
-    lines(out, at, Names::Addresses, width, n, &cells)
+    lines(out, at, 0xFF, Names::Addresses, width, n, &cells)
 }
 
 fn rams(out: &mut [u8], at: usize, dcram: [u16; 16], cgram: [u16; 40], adram: [u16; 16]) -> usize
     ensures { λ r. ⌜ (Writes (now (out .entry)) at (Of·rams dcram cgram adram) r (now (out .exit)))
         × (length (Of·rams dcram cgram adram) ≤ 254) ⌝ }
 {
-    let shown = line(out, at, b"D", &dcram);
-    let drawn = lines(out, shown, Names::Characters, 5, 8, &cgram);
-    line(out, drawn, b"A", &adram)
+    let shown = line(out, at, 0xFF, b"D", &dcram);
+    let drawn = lines(out, shown, 0x7F, Names::Characters, 5, 8, &cgram);
+    line(out, drawn, 0x03, b"A", &adram)
 }

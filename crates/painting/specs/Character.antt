@@ -4,18 +4,20 @@ use mathlib.Core.List.{List, [], _∷_, _++_}
 use lib.ListN.{getD}
 use lib.Dec.{ltb}
 use Rattle.rules.specs.Choice.{whether}
+use Rattle.rules.specs.Digit.{digit}
 use Rattle.terms.specs.declared.Event.{Event}
 use Rattle.terms.specs.Event.{strobe}
 use Rattle.character.specs.declared.chip.Position.the-variants.{Idle}
-use Rattle.character.specs.Fact.{Fact, range, dcram, cgram, adram, dcramAt, cgramAt, adramAt, column, port, duty, digits, lights, position}
+use Rattle.character.specs.Fact.{Fact, range, dcram, cgram, adram, dcramAt, cgramAt, adramAt, column, port, duty, digits, lights, position, textBits, columnBits, pairBits, portBits}
 use Rattle.character.specs.Value.{lit, at-position}
 use Rattle.painting.specs.declared.CharacterPicture.{CharacterPicture}
 
--- The picture's values are in their facts' ranges. A DCRAM cell is a byte, and the lights a name of their own.
+-- The picture's values are in range: duty and digits as their facts have it, a column as a number of seven bits, a pair and the port of two. A DCRAM cell is
+-- a byte, and the lights a name of their own.
 pub record InRanges (p : CharacterPicture) : Type 0 where
-  pub columns-in : (i : ℕ) → getD (p .cgram) i 0 < range (cgram i)
-  pub pairs-in : (i : ℕ) → getD (p .adram) i 0 < range (adram i)
-  pub port-in : p .port < range port
+  pub columns-in : (i : ℕ) → getD (p .cgram) i 0 < 128
+  pub pairs-in : (i : ℕ) → getD (p .adram) i 0 < 4
+  pub port-in : p .port < 4
   pub duty-in : p .duty < range duty
   pub digits-in : p .digits < range digits
 
@@ -34,17 +36,17 @@ fourSettings p u n l =
 abbrev pub painting : CharacterPicture → List Event
 painting p = threeRams (p .dcram) (p .cgram) (p .adram) (fourSettings (p .port) (p .duty) (p .digits) (lit (p .lights)))
 
--- The chip that was c, painted: memory and settings are the picture's. The addresses have gone round to 0, and the
+-- The chip that was c, painted: memory and settings are the picture's, each bit that of its number. The addresses have gone round to 0, and the
 -- transfer is over.
 abbrev pub painted : CharacterPicture → (Fact → ℕ) → Fact → ℕ
-painted p c (dcram i) = whether (ltb i 16) (getD (p .dcram) i 0) (c (dcram i))
-painted p c (cgram i) = whether (ltb i 40) (getD (p .cgram) i 0) (c (cgram i))
-painted p c (adram i) = whether (ltb i 16) (getD (p .adram) i 0) (c (adram i))
+painted p c (dcram i k) = whether (ltb i 16) (whether (ltb k textBits) (digit k (getD (p .dcram) i 0)) (c (dcram i k))) (c (dcram i k))
+painted p c (cgram i k) = whether (ltb i 40) (whether (ltb k columnBits) (digit k (getD (p .cgram) i 0)) (c (cgram i k))) (c (cgram i k))
+painted p c (adram i k) = whether (ltb i 16) (whether (ltb k pairBits) (digit k (getD (p .adram) i 0)) (c (adram i k))) (c (adram i k))
 painted p c dcramAt = 0
 painted p c cgramAt = 0
 painted p c adramAt = 0
 painted p c column = 0
-painted p c port = p .port
+painted p c (port k) = whether (ltb k portBits) (digit k (p .port)) (c (port k))
 painted p c duty = p .duty
 painted p c digits = p .digits
 painted p c lights = lit (p .lights)

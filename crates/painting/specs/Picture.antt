@@ -22,7 +22,7 @@ pub record Shaped (pic : Picture) : Type 0 where
   pub cgram : length (pic .character .cgram) ≡ 40
   pub adram : length (pic .character .adram) ≡ 16
 
--- Picture values have their facts' ranges.
+-- Every value of the picture is in range.
 abbrev pub PictureInRange : Part → Picture → Type 0
 PictureInRange Pt6302 pic = Character.InRanges (pic .character)
 PictureInRange Pt6312 pic = Segment.InRanges (sizes OfFamily.Pt6312) (pic .segment)

@@ -4,6 +4,7 @@ use mathlib.Core.List.{List, [], _∷_, _++_}
 use lib.ListN.{getD, take}
 use lib.Dec.{ltb}
 use Rattle.rules.specs.Choice.{whether}
+use Rattle.rules.specs.Digit.{digit}
 use Rattle.terms.specs.declared.Event.{Event}
 use Rattle.terms.specs.Event.{strobe}
 use Rattle.segment.specs.declared.chip.Sizes.{Sizes}
@@ -11,15 +12,16 @@ use Rattle.segment.specs.declared.chip.Pointer.the-variants.{At}
 use Rattle.segment.specs.declared.chip.Data.the-variants.{WriteLed}
 use Rattle.segment.specs.declared.chip.Stepping.the-variants.{Increment}
 use Rattle.segment.specs.declared.chip.Position.the-variants.{Idle}
-use Rattle.segment.specs.Fact.{Fact, range, cell, address, dataMode, stepping, mode, dimming, display, led, key, switches, readCount, position}
+use Rattle.segment.specs.Fact.{Fact, range, cell, address, dataMode, stepping, mode, dimming, display, led, key, switches, readCount, position, cellBits, ledBits}
 use Rattle.segment.specs.Value.{pointer, data-mode, steps, shows, at-position}
 use Rattle.painting.specs.declared.SegmentPicture.{SegmentPicture}
 
--- The picture's values are in their facts' ranges. A cell is a byte, and the display a name of its own.
+-- The picture's values are in range: mode and dimming as their facts have it, the LED as a number of four bits. A cell is a byte, and the display a name
+-- of its own.
 pub record InRanges (s : Sizes) (p : SegmentPicture) : Type 0 where
   pub mode-in : p .mode < range s mode
   pub dimming-in : p .dimming < range s dimming
-  pub led-in : p .led < range s led
+  pub led-in : p .led < 16
 
 -- Display control: bits 2 to 0 dimming, bit 3 on.
 abbrev pub control : SegmentPicture → ℕ
@@ -37,17 +39,17 @@ fiveStrobes m cells lamps c =
 abbrev pub painting : Sizes → SegmentPicture → List Event
 painting s p = fiveStrobes (p .mode) (take (s .cells) (p .cells)) (p .led) (control p)
 
--- The chip that was c, painted: memory and settings are the picture's. Behind the last cell the address has gone
+-- The chip that was c, painted: memory and settings are the picture's, each bit that of its byte. Behind the last cell the address has gone
 -- round to 00H, the data setting is that of the LED strobe, the transfer is over, and keys and switches are as they were.
 abbrev pub painted : Sizes → SegmentPicture → (Fact → ℕ) → Fact → ℕ
-painted s p c (cell i) = whether (ltb i (s .cells)) (getD (p .cells) i 0) (c (cell i))
+painted s p c (cell i k) = whether (ltb i (s .cells)) (whether (ltb k cellBits) (digit k (getD (p .cells) i 0)) (c (cell i k))) (c (cell i k))
 painted s p c address = pointer (At (record { 0 = 0 }))
 painted s p c dataMode = data-mode WriteLed
 painted s p c stepping = steps Increment
 painted s p c mode = p .mode
 painted s p c dimming = p .dimming
 painted s p c display = shows (p .display)
-painted s p c led = p .led
+painted s p c (led k) = whether (ltb k ledBits) (digit k (p .led)) (c (led k))
 painted s p c (key i) = c (key i)
 painted s p c switches = c switches
 painted s p c readCount = 0

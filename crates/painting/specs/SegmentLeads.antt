@@ -15,7 +15,8 @@ use Rattle.rules.specs.Choice.{whether}
 use Rattle.rules.specs.Rule.{Rule, gives, becomes, run}
 use Rattle.rules.specs.Change.{keep}
 use Rattle.rules.specs.Laws.{says-by-value}
-use Rattle.rules.specs.Turn.{Surely, Leads, leads-append, surely-to, put, change-put}
+use Rattle.rules.specs.Turn.{Surely, Leads, leads-append, surely-to, put, putBits, bits-put, change-put, change-bits}
+use Rattle.rules.specs.Digit.{digit}
 use Rattle.rules.specs.Walk.{Walked, Next, Row, walk-row, row-ends}
 use Rattle.terms.specs.declared.Event.{Event}
 use Rattle.terms.specs.declared.Event.the-variants.{Falls, ByteIn, Rises}
@@ -35,8 +36,8 @@ use Rattle.segment.specs.Family.{sizes}
 use Rattle.segment.specs.Fact.{Fact, same?, cell, address, dataMode, stepping, mode, dimming, display, led, key, switches, readCount, position}
 use Rattle.segment.specs.Value.{pointer, shows}
 use Rattle.segment.specs.Command.{commandOf}
-use Rattle.segment.specs.Move.{sets, then, toMode, commanded, after, storedAt, stored, written, byteIn, move}
-use Rattle.segment.specs.Laws.{every, cells-apart}
+use Rattle.segment.specs.Move.{sets, stores, then, toMode, commanded, after, storedAt, stored, written, byteIn, move}
+use Rattle.segment.specs.Laws.{every, cells-apart, leds-apart}
 use Rattle.painting.specs.declared.SegmentPicture.{SegmentPicture}
 use Rattle.painting.specs.Segment.{InRanges, control, painting, painted}
 
@@ -119,43 +120,43 @@ module _ (s : Sizes) where
   mode-moves : (m : ℕ) (c : Chip) (t : Bool) → eqb (c mode) m ≡ t → (f : Fact) → run (toMode m (c mode)) c f ≡ becomes (in-mode m t c f)
   mode-moves m c true e =
       subst⁻¹ (λ (t : Bool). (f : Fact) → run (whether t (gives (then Ignoring)) (gives (sets mode m (sets display 0 (then Ignoring))))) c f ≡ becomes (in-mode m true c f)) e
-      (every _ (λ i. refl) refl refl refl (ap becomes (eqb-true (c mode) m e)) refl refl refl (λ i. refl) refl refl refl)
+      (every _ (λ i k. refl) refl refl refl (ap becomes (eqb-true (c mode) m e)) refl refl (λ k. refl) (λ i. refl) refl refl refl)
   mode-moves m c false e =
       subst⁻¹ (λ (t : Bool). (f : Fact) → run (whether t (gives (then Ignoring)) (gives (sets mode m (sets display 0 (then Ignoring))))) c f ≡ becomes (in-mode m false c f)) e
-      (every _ (λ i. refl) refl refl refl refl refl refl refl (λ i. refl) refl refl refl)
+      (every _ (λ i k. refl) refl refl refl refl refl refl (λ k. refl) (λ i. refl) refl refl refl)
 
   -- A data setting, the start at a cell, and the control byte.
   abbrev pub in-setting : ℕ → Chip → Chip
   in-setting d c = put′ dataMode d (put′ stepping 0 (put′ readCount 0 (put′ position 2 c)))
 
   pub display-set : (c : Chip) (f : Fact) → run (commanded (Setting WriteDisplay Increment)) c f ≡ becomes (in-setting 0 c f)
-  display-set c = every _ (λ i. refl) refl refl refl refl refl refl refl (λ i. refl) refl refl refl
+  display-set c = every _ (λ i k. refl) refl refl refl refl refl refl (λ k. refl) (λ i. refl) refl refl refl
 
   led-set : (c : Chip) (f : Fact) → run (commanded (Setting WriteLed Increment)) c f ≡ becomes (in-setting 1 c f)
-  led-set c = every _ (λ i. refl) refl refl refl refl refl refl refl (λ i. refl) refl refl refl
+  led-set c = every _ (λ i k. refl) refl refl refl refl refl refl (λ k. refl) (λ i. refl) refl refl refl
 
   abbrev pub at-start : ℕ → Chip → Chip
   at-start i c = put′ address (suc i) (put′ position 2 c)
 
   pub started : (i : ℕ) (c : Chip) (f : Fact) → run (commanded (Start (At (record { 0 = i })))) c f ≡ becomes (at-start i c f)
-  started i c = every _ (λ i. refl) refl refl refl refl refl refl refl (λ i. refl) refl refl refl
+  started i c = every _ (λ i k. refl) refl refl refl refl refl refl (λ k. refl) (λ i. refl) refl refl refl
 
   abbrev under-control : ℕ → Display → Chip → Chip
   under-control d o c = put′ dimming d (put′ display (shows o) (put′ position 3 c))
 
   controlled : (d : ℕ) (o : Display) (c : Chip) (f : Fact) → run (commanded (Control d o)) c f ≡ becomes (under-control d o c f)
-  controlled d o c = every _ (λ i. refl) refl refl refl refl refl refl refl (λ i. refl) refl refl refl
+  controlled d o c = every _ (λ i k. refl) refl refl refl refl refl refl (λ k. refl) (λ i. refl) refl refl refl
 
 -- The facts that the walk over the cells changes.
 abbrev walked : Fact → Bool
-walked (cell i) = true
+walked (cell i k) = true
 walked address = true
 walked dataMode = false
 walked stepping = false
 walked mode = false
 walked dimming = false
 walked display = false
-walked led = false
+walked (led k) = false
 walked (key i) = false
 walked switches = false
 walked readCount = false
@@ -172,27 +173,27 @@ module _ (s : Sizes) where
   abbrev At-cell : ℕ → Chip → Type 0
   At-cell i c = c address ≡ to-cell i
 
-  -- A byte is stored at cell i, and the address steps on.
+  -- A byte is stored at cell i, bit by bit, and the address steps on.
   pub cell-moves : (i b : ℕ) (c : Chip) → i < s .cells → c position ≡ 2 → c dataMode ≡ 0 → c stepping ≡ 0 → c address ≡ suc i
-      → (f : Fact) → run (move s (ByteIn b)) c f ≡ becomes (put′ address (pointer (after s i)) (put′ (cell i) b c) f)
+      → (f : Fact) → run (move s (ByteIn b)) c f ≡ becomes (put′ address (pointer (after s i)) (putBits same? (cell i) 8 b c) f)
   cell-moves i b c h q d n a f =
       says-by-value (byteIn s b) c f _ (c position) 2 q
       (says-by-value (written s b) c f _ (c dataMode) 0 d
       (says-by-value (stored s b) c f _ (c address) (suc i) a
       (rw (lt-ltb i (s .cells) h)
       (says-by-value (storedAt s b i) c f _ (c stepping) 0 n
-      (change-put same? c (put′ (cell i) b c) address (pointer (after s i)) (sets (cell i) b keep) f
-      (change-put same? c c (cell i) b keep f refl))))))
+      (change-put same? c (putBits same? (cell i) 8 b c) address (pointer (after s i)) (stores i b keep) f
+      (change-bits same? (cell i) c c 8 b keep f refl))))))
 
   -- The cells are a row, where the chip is open, writes the display and increments.
   cell-row : (base : Chip) → base position ≡ 2 → base dataMode ≡ 0 → base stepping ≡ 0
-      → Row same? cell (λ b. move s (ByteIn b)) (λ b. b) (s .cells) walked count-to At-cell base
+      → Row same? cell (λ b. move s (ByteIn b)) 8 (s .cells) walked count-to At-cell base
   cell-row base q d n = record {
     apart = cells-apart;
-    touches = λ i. refl;
+    touches = λ i k. refl;
     counted = λ k c. refl;
-    spares = λ k c. every _ (λ j e. refl) (λ e. absurd (true≢false e)) (λ e. refl) (λ e. refl) (λ e. refl) (λ e. refl) (λ e. refl) (λ e. refl) (λ j e. refl) (λ e. refl) (λ e. refl) (λ e. refl);
-    spares-row = λ k c j. refl;
+    spares = λ k c. every _ (λ j m e. refl) (λ e. absurd (true≢false e)) (λ e. refl) (λ e. refl) (λ e. refl) (λ e. refl) (λ e. refl) (λ m e. refl) (λ j e. refl) (λ e. refl) (λ e. refl) (λ e. refl);
+    spares-row = λ k c j m. refl;
     stores = λ i b c h p f.
         let valid : to-cell i ≡ suc i = rw (lt-ltb i (s .cells) h) refl in
         rw (← add-one i) (cell-moves i b c h (p .rest position refl ∙ q) (p .rest dataMode refl ∙ d) (p .rest stepping refl ∙ n) (p .counts ∙ valid) f);
@@ -201,9 +202,9 @@ module _ (s : Sizes) where
 module _ (s : Sizes) (ok : Paintable s) where
   -- A whole strobe of cells, from a chip that is set to write the display and increment.
   over-cells : (bs : List ℕ) (c : Chip) → length bs ≤ s .cells → c dataMode ≡ 0 → c stepping ≡ 0
-      → Walked cell (λ b. move s (ByteIn b)) (λ b. b) (Next walked (At-cell s) (at-start s 0 (put′ position 1 c))) 0 bs (at-start s 0 (put′ position 1 c))
+      → Walked cell (λ b. move s (ByteIn b)) 8 (Next walked (At-cell s) (at-start s 0 (put′ position 1 c))) 0 bs (at-start s 0 (put′ position 1 c))
   over-cells bs c h d i =
-      walk-row same? cell (λ b. move s (ByteIn b)) (λ b. b) (s .cells) walked (count-to s) (At-cell s) (at-start s 0 (put′ position 1 c))
+      walk-row same? cell (λ b. move s (ByteIn b)) 8 (s .cells) walked (count-to s) (At-cell s) (at-start s 0 (put′ position 1 c))
       (cell-row s (at-start s 0 (put′ position 1 c)) refl d i) bs h (rw (lt-ltb 0 (s .cells) (ok .some)) refl)
 
   cells-lead : (bs : List ℕ) (c : Chip) (h : length bs ≤ s .cells) (d : c dataMode ≡ 0) (i : c stepping ≡ 0)
@@ -224,7 +225,7 @@ module _ (s : Sizes) (ok : Paintable s) where
       )
 
   abbrev with-led : ℕ → Chip → Chip
-  with-led v c = put′ led (v % 16) (in-setting s 1 (put′ position 1 c))
+  with-led v c = putBits same? led 4 v (in-setting s 1 (put′ position 1 c))
 
   led-leads : (v : ℕ) (c : Chip) → Leads (move s) (strobe (0x41 ∷ v ∷ [])) c (put′ position 0 (with-led v c))
   led-leads v c =
@@ -236,7 +237,7 @@ module _ (s : Sizes) (ok : Paintable s) where
           first s 0x41 (Setting WriteLed Increment) c y refl (led-set s (put′ position 1 c)),
           (
             with-led v c,
-            (λ f. change-put same? y y led (v % 16) keep f refl),
+            (λ f. change-bits same? led y y 4 v keep f refl),
             (put′ position 0 (with-led v c), rises s (with-led v c), λ f. refl),
           ),
         ),
@@ -260,7 +261,7 @@ module _ (s : Sizes) (ok : Paintable s) (p : SegmentPicture) (fits : InRanges s 
   abbrev c₂ : Chip
   c₂ = put′ position 0 (in-setting s 0 (put′ position 1 c₁))
 
-  w : Walked cell (λ b. move s (ByteIn b)) (λ b. b) (Next walked (At-cell s) (at-start s 0 (put′ position 1 c₂))) 0 bytes (at-start s 0 (put′ position 1 c₂))
+  w : Walked cell (λ b. move s (ByteIn b)) 8 (Next walked (At-cell s) (at-start s 0 (put′ position 1 c₂))) 0 bytes (at-start s 0 (put′ position 1 c₂))
   w = over-cells s ok bytes c₂ (omega (arith, all-cells)) refl refl
 
   abbrev c₃ : Chip
@@ -291,11 +292,14 @@ module _ (s : Sizes) (ok : Paintable s) (p : SegmentPicture) (fits : InRanges s 
       (single s (control p) (Control (p .dimming) (p .display)) c₄ (under-control s (p .dimming) (p .display) (put′ position 1 c₄))
       (control-read s (p .display) (p .dimming) (fits .dimming-in)) (controlled s (p .dimming) (p .display) (put′ position 1 c₄))))))
 
-  cell-ends : (i : ℕ) → painted s p c (cell i) ≡ w .chip (cell i)
+  cell-ends : (i k : ℕ) → painted s p c (cell i k) ≡ w .chip (cell i k)
   unfolding bytes
-  cell-ends i =
-      row-ends cell _ (λ b. b) _ bytes _ w (s .cells) (getD (p .cells) i 0) (c (cell i)) i all-cells refl
+  cell-ends i k =
+      row-ends cell _ 8 _ bytes _ w (s .cells) (getD (p .cells) i 0) (c (cell i k)) i k all-cells refl
       (getD-take (s .cells) (p .cells) i 0) (ltb i (s .cells)) refl
+
+  led-ends : (k : ℕ) → painted s p c (led k) ≡ c₅ (led k)
+  led-ends k = sym (bits-put same? led leds-apart 4 (p .led) _ k ∙ ap (λ (d : ℕ). whether (ltb k 4) (digit k (p .led)) d) (w .next .rest (led k) refl))
 
   address-ends : pointer (At (record { 0 = 0 })) ≡ w .chip address
   unfolding bytes
@@ -305,9 +309,10 @@ module _ (s : Sizes) (ok : Paintable s) (p : SegmentPicture) (fits : InRanges s 
       sym (e ∙ rw (le-ltb (s .cells) (s .cells) (omega arith)) refl)
 
   ends : (f : Fact) → painted s p c f ≡ c₅ f
+  unfolding putBits
   ends =
       every _ cell-ends address-ends refl refl (sym (w .next .rest mode refl)) refl refl
-      (let b = fits .led-in in omega arith)
+      led-ends
       (λ i. sym (w .next .rest (key i) refl)) (sym (w .next .rest switches refl)) refl refl
 
 -- The painting leads every chip to the painted one.

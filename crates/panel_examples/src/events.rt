@@ -5,8 +5,9 @@
 //     position?    the position is unknown
 //     position=01  the position is known as number 1, in range or not
 //     cell07?      memory and keys have a number: cell 07H is unknown
-//     cell07=09    cell 07H is known to be 09H
-//     cell07!      cell 07H has the code 257, which is neither a byte nor unknown
+//     cell07=09    cell 07H is known to be 09H, every bit of it
+//     cell07=12/F6 of cell 07H, of LED and port likewise, the bits of F6H are known to be those of 12H, and no other, in range or not
+//     cell07!      cell 07H has a 1 stored that is not known; key02! has the code 257, which is neither a byte nor unknown
 //     nothing      nothing is known
 // PT6312 and PT6315 have cell, key, every (all cells), address, invalid (the address), data (mode), fixed (or increment), mode, bright
 // (dimming), on, led, switches, reads (the read count) and position. PT6302 has text (DCRAM), shape (CGRAM, columns 00H to 27H) and mark

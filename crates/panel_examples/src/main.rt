@@ -1,5 +1,5 @@
 // Runs the examples of the file stdin, a line each, and writes each line back with what it comes to. It is compared with the file stdout, whose values
-// are from paper 01, and of packets, the ring of cells, updates, temperatures and the places of 8 from paper 02 (M-100 to M-104).
+// are from paper 01, and of packets, the ring of cells, updates, temperatures, the places of 8 and single bits from paper 02 (M-100 to M-104, M-107).
 //
 // A line that is a name, events, recordings, packets, updates or temperatures, says what the lines behind it are; a line that begins with # is a remark. Every other line begins
 // with a part byte, or is a packet and begins with /. Bytes are in hex, with a space between; words say what is known before, and their numbers are in hex.
@@ -7,7 +7,7 @@
 // The longest recordings and packets stand last among theirs, since the interpreter of `rt try` has not steps enough for them.
 //
 // What is written has memory, keys, addresses and unfinished bytes in hex, and other numbers in decimal. Memory stands as runs, 00-06=6E; ?? is unknown,
-// and !! the code 257. A refusal is its number and place. What each section reads and writes beside that stands at its module.
+// 12/F6 a byte, LED or port of which only the bits of the marks F6 are known, in hex, and !! a key byte of the code 257. A refusal is its number and place. What each section reads and writes beside that stands at its module.
 mod events;
 mod in_words;
 mod packeted;

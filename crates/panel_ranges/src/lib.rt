@@ -4,7 +4,7 @@ use segment::Family;
 use terms::Part;
 ghost use Rattle.knowing.specs.Standing.{Sound};
 ghost use Rattle.parts.specs.Facts.{range};
-ghost use Rattle.standing.specs.View.{Tests};
+ghost use Rattle.rules.specs.Tests.{Tests};
 ghost use Rattle.panel.specs.View.{knownOf};
 
 // Every known value is in its fact's range.

@@ -1,5 +1,5 @@
 -- What holds of every part's facts and moves: the two families' own laws, by the part.
-use Prim.Native.Nat.{ℕ, _≤_}
+use Prim.Native.Nat.{_≤_}
 use Rattle.rules.specs.Range.{Ranged}
 use Rattle.terms.specs.declared.Event.{Event}
 use Rattle.terms.specs.Event.{Bytes}
@@ -19,6 +19,6 @@ two Pt6315 = Segment.two OfFamily.Pt6315
 
 -- The rule of an event that carries bytes keeps every fact in its range.
 pub ranged : (p : Part) (e : Event) → Bytes e → Ranged (range p) (range p) (move p e)
-ranged Pt6302 = Character.ranged
+ranged Pt6302 = λ e _. Character.ranged e
 ranged Pt6312 = Segment.ranged (sizes OfFamily.Pt6312) (Segment.proper OfFamily.Pt6312)
 ranged Pt6315 = Segment.ranged (sizes OfFamily.Pt6315) (Segment.proper OfFamily.Pt6315)

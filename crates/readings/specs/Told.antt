@@ -2,10 +2,9 @@
 -- known, and whoever knows more knows these with the same values; and what is known to be dark stays dark.
 use Prim.Native.Nat.{ℕ, _+_}
 use native.Mathlib.Omega.{arith}
-use mathlib.Core.Path.{_≡_, refl, sym, ap, _∙_, subst, subst⁻¹}
+use mathlib.Core.Path.{_≡_, refl, sym}
 use mathlib.Core.Bool.{Bool, true, false, _||_, true≢false}
 use lib.IntN.{ℤ}
-use lib.Dec.{eqb, ltb}
 use borrow.Author.Tests.{eq-eqb}
 use Rattle.rules.specs.Choice.{whether}
 use Rattle.knowing.specs.Standing.{Standing, known}
@@ -14,8 +13,8 @@ use Rattle.knowing.specs.Holds.{isKnown, is-known}
 use Rattle.character.specs.declared.chip.Lights.the-variants.{Off, On}
 use Rattle.character.specs.Value.{lit}
 use Rattle.field.specs.declared.spelling.Five.{Five}
-use Rattle.field.specs.Said.{Said, reading, noReading, dark, unknown, notAReading}
-use Rattle.field.specs.Field.{inUse, last, reachesPast, isDark, ifKnown, ifAll, spelled, told}
+use Rattle.field.specs.Said.{Said, reading, dark, unknown}
+use Rattle.field.specs.Field.{reachesPast, isDark, ifKnown, ifAll, spelled, told}
 
 -- Two things that may be said are not the same.
 not-dark : {h : ℤ} → dark ≡ reading h → ⊥

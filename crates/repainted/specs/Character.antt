@@ -10,8 +10,8 @@ use lib.ListN.{length}
 use lib.Dec.{ltb, eqb}
 use Rattle.rules.specs.Choice.{whether-all}
 use Rattle.rules.specs.Rule.{Rule, gives, look}
-use Rattle.rules.specs.Change.{keep}
-use Rattle.rules.specs.Touch.{AllSettle, keep-settles}
+use Rattle.rules.specs.Change.{keep, setBits}
+use Rattle.rules.specs.Touch.{AllSettle, keep-settles, bits-settle}
 use Rattle.knowing.specs.Standing.{Standing, known}
 use Rattle.knowing.specs.Know.{lifted}
 use Rattle.knowing.specs.Fill.{fill, filled}
@@ -26,14 +26,14 @@ use Rattle.character.specs.declared.chip.Lights.{Lights}
 use Rattle.character.specs.declared.chip.Lights.the-variants.{Normal, Off, On}
 use Rattle.character.specs.Value.{lit}
 use Rattle.character.specs.Command.{commandOf, Defined}
-use Rattle.character.specs.Move.{Forms, sets, commanded, drawn, byteIn, move}
+use Rattle.character.specs.Move.{Forms, sets, spells, commanded, drawn, byteIn, move}
 use Rattle.character.specs.Laws.{every}
 use Rattle.character.specs.Touch.{settled}
 use Rattle.painting.specs.declared.CharacterPicture.{CharacterPicture}
 use Rattle.painting.specs.Character.{InRanges, painting, painted}
 use Rattle.painting.specs.CharacterLeads.{paints}
 use Rattle.repainted.specs.Repainted.{characterRepainted as repainted}
-use Rattle.repainted.specs.Follows.{set-settles, filled-where, Comes, comes, comes-by, known-at-end, one-end}
+use Rattle.repainted.specs.Follows.{set-settles, filled-where, filled-bits, Comes, comes, comes-by, known-at-end, one-end}
 use Rattle.repainted.specs.Strobe.{Bus, Always, no-more, begun, single, row}
 
 abbrev Knowledge : Type 0
@@ -59,19 +59,19 @@ over q I b bs h there begins each rest =
 kept : AllSettle same? keep
 kept = keep-settles same?
 
--- DCRAM and ADRAM go round. The position is known to be theirs, and their address is known.
+-- DCRAM and ADRAM go round; their cells have w bits. The position is known to be theirs, and their address is known.
 abbrev Round : Fact → ℕ → Knowledge → Type 0
 Round to q k = (k position ≡ known q) × IsKnown (k to)
 
-abbrev round : (ℕ → Fact) → Fact → ℕ → ℕ → Rule Fact Fact
-round ram to v a = gives (sets to ((a % 16 + 1) % 16) (sets (ram (a % 16)) v keep))
+abbrev round : (ℕ → ℕ → Fact) → ℕ → Fact → ℕ → ℕ → Rule Fact Fact
+round ram w to v a = gives (sets to ((a % 16 + 1) % 16) (spells (ram (a % 16)) w v keep))
 
-round-byte : (ram : ℕ → Fact) (to : Fact) (q v : ℕ) (k : Knowledge) → ((x i : ℕ) → lifted k (sets to x (sets (ram i) v keep) position) ≡ k position) → Round to q k
-    → Into (look to (round ram to v)) k (Round to q)
-round-byte ram to q v k e (p, (a, h)) =
-    let cells : Forms = sets (ram (a % 16)) v keep in
-    comes-by same? range to (round ram to v) k (Round to q) a h
-    (comes same? range (sets to ((a % 16 + 1) % 16) cells) k (Round to q) (set-settles same? to _ cells (set-settles same? (ram (a % 16)) v keep kept))
+round-byte : (ram : ℕ → ℕ → Fact) (w : ℕ) (to : Fact) (q v : ℕ) (k : Knowledge) → ((x i : ℕ) → lifted k (sets to x (spells (ram i) w v keep) position) ≡ k position) → Round to q k
+    → Into (look to (round ram w to v)) k (Round to q)
+round-byte ram w to q v k e (p, (a, h)) =
+    let cells : Forms = spells (ram (a % 16)) w v keep in
+    comes-by same? range to (round ram w to v) k (Round to q) a h
+    (comes same? range (sets to ((a % 16 + 1) % 16) cells) k (Round to q) (set-settles same? to _ cells (bits-settle same? (ram (a % 16)) w v keep kept))
     (e _ (a % 16) ∙ p, (_, set-same same? k to _ cells)))
 
 -- CGRAM has a column beside its address.
@@ -79,9 +79,10 @@ abbrev Drawing : Knowledge → Type 0
 Drawing k = (k position ≡ known 3) × IsKnown (k cgramAt) × IsKnown (k column)
 
 drawn-byte : (v a i : ℕ) (k : Knowledge) → Drawing k → Into (drawn v a i) k Drawing
+unfolding setBits
 drawn-byte v a i k (p, at, at-column) =
-    let cells : Forms = sets (cgram (a % 8 * 5 + i % 5)) (v % 128) keep in
-    let h = set-settles same? (cgram (a % 8 * 5 + i % 5)) (v % 128) keep kept in
+    let cells : Forms = spells (cgram (a % 8 * 5 + i % 5)) 7 v keep in
+    let h = bits-settle same? (cgram (a % 8 * 5 + i % 5)) 7 v keep kept in
     whether-all (λ (r : Rule Fact Fact). Into r k Drawing) (eqb (i % 5) 4) _ _
     (λ _. comes same? range (sets cgramAt ((a % 8 + 1) % 8) (sets column 0 cells)) k Drawing
     (set-settles same? cgramAt _ (sets column 0 cells) (set-settles same? column 0 cells h)) (p, (_, refl), (_, refl)))
@@ -99,10 +100,11 @@ lights-defined On = tt
 
 -- The seven strobes, from whatever is known.
 seven : (p : CharacterPicture) → InRanges p → Always bus (painting p)
+unfolding setBits
 seven p fits =
-    over 2 (Round dcramAt 2) 0x10 (p .dcram) tt (λ k w. w .0) (λ k. (refl, (_, refl))) (λ v k w. round-byte dcram dcramAt 2 v k (λ x i. refl) w)
+    over 2 (Round dcramAt 2) 0x10 (p .dcram) tt (λ k w. w .0) (λ k. (refl, (_, refl))) (λ v k w. round-byte dcram 8 dcramAt 2 v k (λ x i. refl) w)
     (over 3 Drawing 0x20 (p .cgram) tt (λ k w. w .0) (λ k. (refl, (_, refl), (_, refl))) column-byte
-    (over 4 (Round adramAt 4) 0x30 (p .adram) tt (λ k w. w .0) (λ k. (refl, (_, refl))) (λ v k w. round-byte adram adramAt 4 (v % 4) k (λ x i. refl) w)
+    (over 4 (Round adramAt 4) 0x30 (p .adram) tt (λ k w. w .0) (λ k. (refl, (_, refl))) (λ v k w. round-byte adram 2 adramAt 4 v k (λ x i. refl) w)
     (set (0x40 + p .port) (let e : (0x40 + p .port) / 16 ≡ 4 = omega (arith, fits .port-in) in rw e tt)
     (set (0x50 + p .duty) (let e : (0x50 + p .duty) / 16 ≡ 5 = omega (arith, fits .duty-in) in rw e tt)
     (set (0x60 + p .digits) (let e : (0x60 + p .digits) / 16 ≡ 6 = omega (arith, fits .digits-in) in rw e tt)
@@ -111,8 +113,8 @@ seven p fits =
 -- A chip that has d wherever nothing is known is painted as the knowledge is.
 painted-filled : (p : CharacterPicture) (d : ℕ) (k : Knowledge) (f : Fact) → painted p (filled d k) f ≡ fill d (repainted p k f)
 painted-filled p d k =
-    every _ (λ i. filled-where d (ltb i 16) _ _) (λ i. filled-where d (ltb i 40) _ _) (λ i. filled-where d (ltb i 16) _ _)
-    refl refl refl refl refl refl refl refl refl
+    every _ (λ i j. filled-bits d (ltb i 16) (ltb j 8) _ _) (λ i j. filled-bits d (ltb i 40) (ltb j 7) _ _) (λ i j. filled-bits d (ltb i 16) (ltb j 2) _ _)
+    refl refl refl refl (λ j. filled-where d (ltb j 2) _ _) refl refl refl refl
 
 module _ (p : CharacterPicture) (fits : InRanges p) (d16 : length (p .dcram) ≡ 16) (g40 : length (p .cgram) ≡ 40) (a16 : length (p .adram) ≡ 16) (k : Fact → Standing) where
   -- All that is known after the painting, whatever was known before.

@@ -30,10 +30,14 @@ told-by-filling unknown unknown h = refl
 pub set-settles : {F : Type 0} (same? : Discrete F) (g : F) (v : ℕ) (φ : F → Form F) → AllSettle same? φ → AllSettle same? (change same? g (value v) φ)
 set-settles same? g v φ h = change-settles same? g (value v) φ refl h
 
--- A number is filled in on either side of a choice.
+-- A number is filled in on either side of a choice, and of a choice within one.
 pub filled-where : (d : ℕ) (t : Bool) (r s : Standing) → whether t (fill d r) (fill d s) ≡ fill d (whether t r s)
 filled-where d true r s = refl
 filled-where d false r s = refl
+
+pub filled-bits : (d : ℕ) (t u : Bool) (r s : Standing) → whether t (whether u (fill d r) (fill d s)) (fill d s) ≡ fill d (whether t (whether u r s) s)
+filled-bits d true u r s = filled-where d u r s
+filled-bits d false u r s = refl
 
 module _ {F : Type 0} (same? : Discrete F) (range : F → ℕ) where
   -- The chip that has d wherever k does not know becomes the chip that has d wherever nothing is known afterwards,

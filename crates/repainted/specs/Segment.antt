@@ -10,11 +10,12 @@ use mathlib.Core.List.{List, [], _∷_, _++_, map}
 use lib.ListN.{length, getD, take}
 use lib.Dec.{ltb, eqb}
 use borrow.Author.Tests.{eqb-true, eq-eqb}
+use Rattle.rules.specs.Digit.{digit}
 use Rattle.rules.specs.Choice.{whether, whether-all}
 use Rattle.rules.specs.Rule.{Rule, gives, look, becomes, run}
-use Rattle.rules.specs.Change.{keep}
+use Rattle.rules.specs.Change.{keep, setBits}
 use Rattle.rules.specs.Laws.{says-by-value}
-use Rattle.rules.specs.Touch.{AllSettle, keep-settles}
+use Rattle.rules.specs.Touch.{AllSettle, keep-settles, bits-settle}
 use Rattle.rules.specs.Turn.{Surely, put, change-put}
 use Rattle.knowing.specs.Standing.{Standing, known, unknown}
 use Rattle.knowing.specs.Know.{learn, know}
@@ -38,13 +39,13 @@ use Rattle.segment.specs.Family.{sizes}
 use Rattle.segment.specs.Fact.{Fact, same?, range, cell, address, dataMode, stepping, mode, dimming, display, led, key, switches, readCount, position}
 use Rattle.segment.specs.Value.{pointer, shows, at-position}
 use Rattle.segment.specs.Command.{commandOf, displayOf, pointerOf}
-use Rattle.segment.specs.Move.{Forms, sets, then, toMode, setting, after, storedAt, stored, written, byteIn, move}
+use Rattle.segment.specs.Move.{Forms, sets, stores, lights, then, toMode, setting, after, storedAt, stored, written, byteIn, move}
 use Rattle.segment.specs.Laws.{every}
 use Rattle.painting.specs.declared.SegmentPicture.{SegmentPicture}
 use Rattle.painting.specs.Segment.{InRanges, control, painting, painted}
 use Rattle.painting.specs.SegmentLeads.{paintable, paints}
 use Rattle.repainted.specs.Repainted.{segmentRepainted as repainted}
-use Rattle.repainted.specs.Follows.{Comes, comes, comes-by, set-settles, known-at-end, one-end, filled-where}
+use Rattle.repainted.specs.Follows.{Comes, comes, comes-by, set-settles, known-at-end, one-end, filled-where, filled-bits}
 use Rattle.repainted.specs.Strobe.{Bus, Always, no-more, at, rose, single, row}
 
 abbrev pub Knowledge : Type 0
@@ -89,12 +90,13 @@ module _ (s : Sizes) where
 
   -- A byte for the cells, by the address.
   stored-byte : (v a : ℕ) (k : Knowledge) → Writing k → Into (stored s v a) k Writing
+  unfolding setBits
   stored-byte v zero k w = comes same? (range s) keep k Writing kept w
   stored-byte v (suc i) k w =
-      let one : Forms = sets (cell i) v keep in
+      let one : Forms = stores i v keep in
       whether-all (λ (r : Rule Fact Fact). Into r k Writing) (ltb i (s .cells)) _ _
       (λ _. comes-by same? (range s) stepping (storedAt s v i) k Writing 0 (w .2)
-      (comes same? (range s) (sets address (pointer (after s i)) one) k Writing (set-settles same? address _ one (set-settles same? (cell i) v keep kept))
+      (comes same? (range s) (sets address (pointer (after s i)) one) k Writing (set-settles same? address _ one (bits-settle same? (cell i) 8 v keep kept))
       (w .0, w .1, w .2, (_, refl))))
       (λ _. comes same? (range s) keep k Writing kept w)
 
@@ -110,13 +112,14 @@ module _ (s : Sizes) where
       (comes-by same? (range s) address (stored s v) k Writing (w .3 .0) (w .3 .1) (stored-byte v (w .3 .0) k w))
 
   four-follow : (p : SegmentPicture) → InRanges s p → Always bus (four s p)
+  unfolding setBits
   four-follow p fits =
       single bus Set 0x40 (sets dataMode 0 (setting 0)) refl (setting-settles 0) (λ k _. (refl, refl))
       (row bus (λ _. Unit) Writing 0xC0 (take (s .cells) (p .cells)) (sets address (pointer (pointerOf s 0xC0)) (then Open)) refl
       (set-settles same? address _ _ (then-settles Open)) (λ k h. (refl, h .0, h .1, (_, refl)))
       cell-byte (λ k _. tt)
       (row bus (λ _. Unit) Lighting 0x41 (p .led ∷ []) (sets dataMode 1 (setting 0)) refl (setting-settles 1) (λ k _. (refl, refl))
-      (λ v k w. open-byte Lighting v 1 k (w .0) (w .1) (comes same? (range s) (sets led (v % 16) keep) k Lighting (set-settles same? led _ keep kept) w)) (λ k _. tt)
+      (λ v k w. open-byte Lighting v 1 k (w .0) (w .1) (comes same? (range s) (lights v keep) k Lighting (bits-settle same? led 4 v keep kept) w)) (λ k _. tt)
       (single bus (λ _. Unit) (control p) (sets dimming (control p % 8) (sets display (shows (displayOf (control p))) (then Ignoring)))
       (rw (control-top (p .display) (p .dimming) (fits .dimming-in)) refl)
       (set-settles same? dimming _ _ (set-settles same? display _ _ (then-settles Ignoring))) (λ k _. tt) (no-more bus))))
@@ -169,11 +172,11 @@ module _ (s : Sizes) (m : ℕ) where
         (says-by-value (toMode m) (put same? position 1 c) f _ (c mode) m e
         (rw (eq-eqb m m refl)
         (every (λ (f : Fact). run (gives (then Ignoring)) (put same? position 1 c) f ≡ becomes (c f))
-        (λ i. refl) refl refl refl refl refl refl refl (λ i. refl) refl refl (ap becomes (sym q)) f)))
+        (λ i k. refl) refl refl refl refl refl refl (λ k. refl) (λ i. refl) refl refl (ap becomes (sym q)) f)))
 
 -- A chip that has d wherever nothing is known is painted as the knowledge is.
 painted-filled : (s : Sizes) (p : SegmentPicture) (d : ℕ) (k : Knowledge) (f : Fact) → painted s p (filled d k) f ≡ fill d (repainted s p k f)
-painted-filled s p d k = every _ (λ i. filled-where d (ltb i (s .cells)) _ _) refl refl refl refl refl refl refl (λ i. refl) refl refl refl
+painted-filled s p d k = every _ (λ i j. filled-bits d (ltb i (s .cells)) (ltb j 8) _ _) refl refl refl refl refl refl (λ j. filled-where d (ltb j 4) _ _) (λ i. refl) refl refl refl
 
 module _ (q : Family) (p : SegmentPicture) (fits : InRanges (sizes q) p) (whole : length (p .cells) ≡ 36) (k : Fact → Standing) where
   reads : commandOf (sizes q) (p .mode) ≡ Mode (p .mode)
@@ -201,7 +204,8 @@ module _ (q : Family) (p : SegmentPicture) (fits : InRanges (sizes q) p) (whole 
   -- What the mode byte changes is painted anyway.
   as-before : (f : Fact) → repainted (sizes q) p k₁ f ≡ repainted (sizes q) p k f
   as-before =
-      every _ (λ i. ap (whether (ltb i (sizes q .cells)) (known (getD (p .cells) i 0))) (spared (cell i) (λ l v. (refl, refl, refl)))) refl refl refl refl refl refl refl
+      every _ (λ i j. ap (λ (t : Standing). whether (ltb i (sizes q .cells)) (whether (ltb j 8) (known (digit j (getD (p .cells) i 0))) t) t) (spared (cell i j) (λ l v. (refl, refl, refl)))) refl refl refl refl refl refl
+      (λ j. ap (whether (ltb j 4) (known (digit j (p .led)))) (spared (led j) (λ l v. (refl, refl, refl))))
       (λ i. spared (key i) (λ l v. (refl, refl, refl))) (spared switches (λ l v. (refl, refl, refl))) refl refl
     where
       spared : (f : Fact) → Spared (sizes q) (p .mode) f → k₁ f ≡ k f

@@ -1,5 +1,7 @@
 pub mod Choice
+pub mod Digit
 pub mod Where
+pub mod Tests
 pub mod Rule
 pub mod Change
 pub mod Range

@@ -1,9 +1,16 @@
 -- Moves in turn: the chips to which a row of moves may lead, and rows that surely lead to one.
-use Prim.Native.Nat.{ℕ, _<_}
+use Prim.Native.Nat.{ℕ, zero, suc, _<_, _≤_}
+use native.Mathlib.Omega.{arith}
+use native.Mathlib.Decide.{decLt, ℕ-discrete}
+use mathlib.Core.Bool.{Bool}
+use lib.Dec.{ltb}
+use borrow.Author.Tests.{lt-ltb, le-ltb}
+use Rattle.rules.specs.Choice.{whether}
+use Rattle.rules.specs.Digit.{digit}
 use mathlib.Core.Path.{_≡_, refl, sym, ap, _∙_, fun-ext, subst}
 use mathlib.Core.List.{List, [], _∷_, _++_, map}
 use Rattle.rules.specs.Rule.{Form, value, Rule, Outcome, becomes, anything, outcome, run}
-use Rattle.rules.specs.Change.{change}
+use Rattle.rules.specs.Change.{change, setBits}
 
 -- A fact may have the value w afterwards: the one that the move gives, or any in range where it says anything.
 abbrev pub Allows : ℕ → Outcome → ℕ → Type 0
@@ -96,3 +103,36 @@ module _ {F : Type 0} (same? : Discrete F) where
       go : (d : Dec (f ≡ g)) → outcome c (elim d [ yes e ↦ value v | no n ↦ φ f ]) ≡ becomes (elim d [ yes e ↦ v | no n ↦ y f ])
       go (yes e) = refl
       go (no n) = h
+
+-- The chip c, with the facts `at 0`, `at 1` and so on, n of them, made the bits of b.
+unfoldable pub putBits : {F : Type 0} → Discrete F → (ℕ → F) → ℕ → ℕ → (F → ℕ) → F → ℕ
+putBits same? at zero b c = c
+putBits same? at (suc n) b c = put same? (at n) (digit n b) (putBits same? at n b c)
+
+module _ {F : Type 0} (same? : Discrete F) (at : ℕ → F) where
+  pub bits-other : (n b : ℕ) (c : F → ℕ) (f : F) → ((k : ℕ) → k < n → ¬ (f ≡ at k)) → putBits same? at n b c f ≡ c f
+  unfolding putBits
+  bits-other zero b c f h = refl
+  bits-other (suc n) b c f h = put-other same? (at n) f (digit n b) (putBits same? at n b c) (h n (omega arith)) ∙ bits-other n b c f (λ k l. h k (omega arith))
+
+  pub bits-put : (apart : (i j : ℕ) → at i ≡ at j → i ≡ j) (n b : ℕ) (c : F → ℕ) (k : ℕ) → putBits same? at n b c (at k) ≡ whether (ltb k n) (digit k b) (c (at k))
+  unfolding putBits
+  bits-put apart zero b c k = rw (le-ltb k 0 (omega arith)) refl
+  bits-put apart (suc n) b c k = go (ℕ-discrete k n) (bits-put apart n b c k)
+    where
+      go : Dec (k ≡ n) → putBits same? at n b c (at k) ≡ whether (ltb k n) (digit k b) (c (at k))
+          → put same? (at n) (digit n b) (putBits same? at n b c) (at k) ≡ whether (ltb k (suc n)) (digit k b) (c (at k))
+      go (yes p) e = rw (p, lt-ltb n (suc n) (omega arith)) (put-same same? (at n) (digit n b) (putBits same? at n b c))
+      go (no m) e = put-other same? (at n) (at k) (digit n b) (putBits same? at n b c) (λ q. m (apart k n q)) ∙ e ∙ ap (λ (t : Bool). whether t (digit k b) (c (at k))) (less (decLt k n))
+        where
+          less : Dec (k < n) → ltb k n ≡ ltb k (suc n)
+          less (yes l) = lt-ltb k n l ∙ sym (lt-ltb k (suc n) (omega arith))
+          less (no l) = le-ltb k n (omega arith) ∙ sym (le-ltb k (suc n) (over m l))
+            where
+              over : (k ≡ n → ⊥) → (k < n → ⊥) → suc n ≤ k
+              over d o = omega arith
+
+  pub change-bits : (c y : F → ℕ) (n b : ℕ) (φ : F → Form F) (f : F) → outcome c (φ f) ≡ becomes (y f) → outcome c (setBits same? at n b φ f) ≡ becomes (putBits same? at n b y f)
+  unfolding putBits setBits
+  change-bits c y zero b φ f h = h
+  change-bits c y (suc n) b φ f h = change-put same? c (putBits same? at n b y) (at n) (digit n b) (setBits same? at n b φ) f (change-bits c y n b φ f h)

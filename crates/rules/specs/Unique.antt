@@ -1,10 +1,10 @@
 -- What fixes a value: its number where it has a name, its elements where it is a list, and the rule where it answers
 -- a move.
-use Prim.Native.Nat.{ℕ}
-use mathlib.Core.Path.{_≡_, sym, ap, _∙_}
+use Prim.Native.Nat.{ℕ, zero, suc}
+use mathlib.Core.Path.{_≡_, refl, sym, ap, _∙_}
 use mathlib.Core.Bool.{Bool}
 use mathlib.Core.List.{List}
-use lib.ListN.{length, getD}
+use lib.ListN.{length, getD, replicate}
 use lib.Seq.{ext-getD}
 use Rattle.rules.specs.Rule.{Rule, Told, Moves}
 
@@ -14,6 +14,12 @@ by-number number back read a b e = sym (read a) ∙ ap back e ∙ read b
 
 pub same-list : (n : ℕ) (a b : List ℕ) → length a ≡ n → length b ≡ n → ((i : ℕ) → getD a i 0 ≡ getD b i 0) → a ≡ b
 same-list n a b la lb h = ext-getD 0 a b (la ∙ sym lb) (λ i _. h i)
+
+-- A list of one number, and that number behind it.
+pub getD-same : (n i a : ℕ) → getD (replicate n a) i a ≡ a
+getD-same zero i a = refl
+getD-same (suc n) zero a = refl
+getD-same (suc n) (suc i) a = getD-same n i a
 
 -- Two answers by one rule, of one chip, have the same values and the same facts that are anything.
 module _ {F : Type 0} (rule : Rule F F) (old new new′ : F → ℕ) (any any′ : F → Bool) (a : Moves rule old new any) (b : Moves rule old new′ any′) where

@@ -12,8 +12,7 @@ use lib.Dec.{eqb}
 use borrow.Author.Tests.{ne-eqb}
 use Rattle.rules.specs.Choice.{whether}
 use Rattle.knowing.specs.Holds.{holds}
-use Rattle.standing.specs.View.{coded}
-use Rattle.standing.specs.Codes.{default-free}
+use Rattle.lamps.specs.View.{shown}
 use Rattle.survey.specs.declared.Survey.{Survey}
 use Rattle.runs.specs.Runs.{those, before, wanted, differing, all, starts, startsOf}
 use Rattle.runs.specs.Linear.{those-most, those-split, those-none, not-all, start-if, starts-not}
@@ -21,17 +20,13 @@ use Rattle.runs.specs.Front.{leading, leading-most, leading-more, frontO
 
 -- Cell i is not known to hold its wanted byte.
 abbrev pub differ : List ℕ → List ℕ → ℕ → Bool
-differ codes w i = not (holds (coded (getD codes i 256)) (wanted w i))
+differ codes w i = not (holds 8 (shown 8 (getD codes i 0)) (wanted w i))
 
 -- How many cells differ, in how many runs, and the front of the ring.
 pub record Surveyed (n : ℕ) (d : ℕ → Bool) (r : Survey) : Type 0 where
   pub cells : r .cells ≡ length (differing n d)
   pub runs : r .runs ≡ length (startsOf n d)
   pub front : r .front ≡ frontOf n d
-
--- A cell's code, as code reads it.
-pub read-differs : (codes w : List ℕ) (i : ℕ) (b : Bool) → i < length codes → b ≡ not (holds (coded (getD codes i 0)) (getD w i 0)) → b ≡ differ codes w i
-read-differs codes w i b h e = e ∙ ap (λ (c : ℕ). not (holds (coded c) (getD w i 0))) (default-free codes i 0 256 h)
 
 -- One number more.
 count-more : (t : ℕ → Bool) (m : ℕ) → length (those t (m + 1) 0) ≡ length (those t m 0) + whether (t m) 1 0

@@ -3,7 +3,7 @@ use Prim.Native.Nat.{ℕ, zero, suc, _+_, _%_, min}
 use lib.Dec.{ltb, eqb}
 use Rattle.rules.specs.Choice.{whether, of2, of4}
 use Rattle.rules.specs.Rule.{Form, value, copy, free, Rule, gives, look}
-use Rattle.rules.specs.Change.{keep, change}
+use Rattle.rules.specs.Change.{keep, change, setBits}
 use Rattle.terms.specs.declared.Event.{Event}
 use Rattle.terms.specs.declared.Event.the-variants.{Power, Falls, ByteIn, Rises, Gap, Unfinished, Keys, Switches, ByteOut}
 use Rattle.segment.specs.declared.command.Command.{Command}
@@ -16,7 +16,7 @@ use Rattle.segment.specs.declared.chip.Display.the-variants.{Off}
 use Rattle.segment.specs.declared.chip.Position.{Position}
 use Rattle.segment.specs.declared.chip.Position.the-variants.{Idle, First, Open, Ignoring}
 use Rattle.segment.specs.declared.chip.Sizes.{Sizes}
-use Rattle.segment.specs.Fact.{Fact, cell, address, dataMode, stepping, mode, dimming, display, led, key, switches, readCount, position, same?, sort, bySort}
+use Rattle.segment.specs.Fact.{Fact, cell, address, dataMode, stepping, mode, dimming, display, led, key, switches, readCount, position, same?, cellBits, ledBits, sort, bySort}
 use Rattle.segment.specs.Value.{pointer, data-mode, steps, shows, at-position}
 use Rattle.segment.specs.Command.{commandOf}
 
@@ -27,6 +27,14 @@ Forms = Fact → Form Fact
 abbrev pub sets : Fact → ℕ → Forms → Forms
 sets g v φ = change same? g (value v) φ
 
+-- Each bit of cell i becomes that of the byte b.
+abbrev pub stores : ℕ → ℕ → Forms → Forms
+stores i b φ = setBits same? (cell i) cellBits b φ
+
+-- Each of the LED's four bits becomes that of the byte b; a bit past them, which no chip in range has, stays.
+abbrev pub lights : ℕ → Forms → Forms
+lights b φ = setBits same? led ledBits b φ
+
 -- Only the position changes.
 abbrev pub then : Position → Forms
 then p = sets position (at-position p) keep
@@ -36,14 +44,14 @@ nothing = gives keep
 
 -- Power (001, 002).
 abbrev pub powered : Sizes → Forms
-powered s (cell i) = free
+powered s (cell i k) = free
 powered s address = value (pointer (At (record { 0 = 0 })))
 powered s dataMode = value (data-mode WriteDisplay)
 powered s stepping = value (steps Increment)
 powered s mode = value (s .top)
 powered s dimming = value 0
 powered s display = value (shows Off)
-powered s led = value (s .led)
+powered s (led k) = lights (s .led) keep (led k)
 powered s (key i) = free
 powered s switches = free
 powered s readCount = value 0
@@ -78,7 +86,7 @@ after s i = At (record { 0 = whether (ltb (i + 1) (s .cells)) (i + 1) 0 })
 
 -- The byte is stored at cell i, and the address steps on if incrementing (001).
 abbrev pub storedAt : Sizes → ℕ → ℕ → ℕ → Rule Fact Fact
-storedAt s b i = of2 (gives (sets address (pointer (after s i)) (sets (cell i) b keep))) (gives (sets (cell i) b keep))
+storedAt s b i = of2 (gives (sets address (pointer (after s i)) (stores i b keep))) (gives (stores i b keep))
 
 -- Write display, by the address: an invalid one stores nothing and stays (001, 002).
 abbrev pub stored : Sizes → ℕ → ℕ → Rule Fact Fact
@@ -87,7 +95,7 @@ stored s b (suc i) = whether (ltb i (s .cells)) (look stepping (storedAt s b i))
 
 -- Byte in, open, by the data mode: write LED keeps the low nibble, the read modes ignore it (001).
 abbrev pub written : Sizes → ℕ → ℕ → Rule Fact Fact
-written s b = of4 (look address (stored s b)) (gives (sets led (b % 16) keep)) nothing nothing
+written s b = of4 (look address (stored s b)) (gives (lights b keep)) nothing nothing
 
 -- Byte in, by the position: nothing when idle or ignoring.
 abbrev pub byteIn : Sizes → ℕ → ℕ → Rule Fact Fact

@@ -9,7 +9,7 @@ use borrow.Author.Tests.{ltb-true}
 use Rattle.rules.specs.Choice.{whether, bit, whether-all, of2-all, of4-all}
 use Rattle.rules.specs.Rule.{value, copy, free, Rule, gives}
 use Rattle.rules.specs.Change.{keep}
-use Rattle.rules.specs.Range.{Good, moves-good, FormIn, Ranged, InRange, keep-fits, change-fits}
+use Rattle.rules.specs.Range.{Good, moves-good, FormIn, Ranged, InRange, keep-fits, change-fits, bits-fit}
 use Rattle.terms.specs.declared.Event.{Event}
 use Rattle.terms.specs.declared.Event.the-variants.{Power, Falls, ByteIn, Rises, Gap, Unfinished, Keys, Switches, ByteOut}
 use Rattle.terms.specs.Event.{Bytes}
@@ -29,21 +29,20 @@ use Rattle.segment.specs.Family.{sizes}
 use Rattle.segment.specs.Fact.{Fact, same?, lacking, range, cell, address, dataMode, stepping, mode, dimming, display, led, key, switches, readCount, position}
 use Rattle.segment.specs.Value.{pointer, data-mode, steps, shows, at-position}
 use Rattle.segment.specs.Command.{modeOf, settingOf, displayOf, pointerOf, commandOf}
-use Rattle.segment.specs.Move.{Forms, sets, then, toMode, commanded, after, stored, byteIn, counted, byteOut, keysLatched, switchesLatched, move}
-use Rattle.segment.specs.Laws.{every}
+use Rattle.segment.specs.Move.{Forms, sets, stores, lights, then, toMode, commanded, after, stored, byteIn, counted, byteOut, keysLatched, switchesLatched, move}
+use Rattle.segment.specs.Laws.{every, led-tested}
 use Rattle.segment.specs.declared.chip.Segment.{Segment}
 use Rattle.segment.specs.declared.chip.Moved.{Moved}
 use Rattle.segment.specs.View.{view, covers, By}
 
--- There is a cell, and the LED after power is a nibble.
+-- There is a cell.
 pub record Proper (s : Sizes) : Type 0 where
   pub some : 0 < s .cells
-  pub nibble : s .led < 16
 
 pub proper : (p : Family) → Proper (sizes p)
 unfolding sizes
-proper Pt6312 = record { some = omega arith; nibble = omega arith }
-proper Pt6315 = record { some = omega arith; nibble = omega arith }
+proper Pt6312 = record { some = omega arith }
+proper Pt6315 = record { some = omega arith }
 
 -- A value below n is in the range of a fact with n values, and in that of what a part lacks.
 below : (t : Bool) (n v : ℕ) → n ≤ lacking → v < n → v < whether t n lacking
@@ -127,7 +126,7 @@ module _ (s : Sizes) (p : Proper s) where
   commanded-fits : (m : Command) → CommandInRange s m → Fine (commanded m)
   commanded-fits (Mode m) h = λ old _. mode-fits m old h
   commanded-fits Test h =
-      every _ (λ i. tt) tt tt tt tt tt tt tt (λ i. omega arith) (omega arith) tt (omega arith)
+      every _ (λ i k. tt) tt tt tt tt tt tt (λ k. rw (led-tested k) tt) (λ i. omega arith) (omega arith) tt (omega arith)
   commanded-fits (Setting d i) h = sets-fit dataMode (data-mode d) _ h (setting-fits i)
   commanded-fits (AnySetting i) h = change-fits same? (range s) dataMode free _ tt (setting-fits i)
   commanded-fits (Control d o) h = sets-fit dimming d _ h (sets-fit display (shows o) _ (shows-fit o) (then-fits Ignoring))
@@ -142,19 +141,30 @@ module _ (s : Sizes) (p : Proper s) where
   byte : (t : Bool) (b : ℕ) → b < 256 → b < whether t 256 lacking
   byte t b h = below t 256 b (omega arith) h
 
-  stored-fits : (b a : ℕ) → b < 256 → Fine (stored s b a)
-  stored-fits b zero h = kept
-  stored-fits b (suc i) h =
+  -- A bit of a cell has two values, and what a part lacks more.
+  two-lamps : (t : Bool) → 2 ≤ whether t 2 lacking
+  two-lamps true = omega arith
+  two-lamps false = omega arith
+
+  stores-fit : (i b : ℕ) → InRange same? (range s) (stores i b keep)
+  stores-fit i b = bits-fit same? (range s) (cell i) 8 b keep (λ k _. two-lamps (ltb i (s .cells))) kept
+
+  lights-fit : (b : ℕ) → InRange same? (range s) (lights b keep)
+  lights-fit b = bits-fit same? (range s) led 4 b keep (λ k _. omega arith) kept
+
+  stored-fits : (b a : ℕ) → Fine (stored s b a)
+  stored-fits b zero = kept
+  stored-fits b (suc i) =
       whether-all Fine (ltb i (s .cells)) _ _
-      (λ _ n _. of2-all Fine _ _ (sets-fit address _ _ (after-fits i) (sets-fit (cell i) b _ (byte (ltb i (s .cells)) b h) kept)) (sets-fit (cell i) b _ (byte (ltb i (s .cells)) b h) kept) n)
+      (λ _ n _. of2-all Fine _ _ (sets-fit address _ _ (after-fits i) (stores-fit i b)) (stores-fit i b) n)
       (λ _. kept)
 
-  byte-fits : (b q : ℕ) → b < 256 → Fine (byteIn s b q)
-  byte-fits b q h =
+  byte-fits : (b q : ℕ) → Fine (byteIn s b q)
+  byte-fits b q =
       of4-all Fine _ _ _ _
       kept
       (commanded-fits (commandOf s b) (command-in-range s b))
-      (λ d _. of4-all Fine _ _ _ _ (λ a _. stored-fits b a h) (sets-fit led (b % 16) _ (omega arith) kept) kept kept d)
+      (λ d _. of4-all Fine _ _ _ _ (λ a _. stored-fits b a) (lights-fit b) kept kept d)
       kept
       q
 
@@ -180,10 +190,10 @@ module _ (s : Sizes) (p : Proper s) where
 
   pub ranged : (e : Event) → Bytes e → Ranged (range s) (range s) (move s e)
   ranged Power h =
-      every _ (λ i. tt) (omega (arith, p .some)) (omega (arith, two-at-least (s .switched))) (omega arith) (omega arith) (omega arith) (omega arith) (p .nibble)
+      every _ (λ i k. tt) (omega (arith, p .some)) (omega (arith, two-at-least (s .switched))) (omega arith) (omega arith) (omega arith) (omega arith) (λ k. lights-fit (s .led) (led k))
       (λ i. tt) tt (omega arith) (omega arith)
   ranged Falls h = then-fits First
-  ranged (ByteIn b) h = λ q _. byte-fits b q h
+  ranged (ByteIn b) h = λ q _. byte-fits b q
   ranged Rises h = then-fits Idle
   ranged Gap h = λ f. tt
   ranged (Unfinished n) h = then-fits Idle
@@ -195,12 +205,12 @@ module _ (s : Sizes) (p : Proper s) where
 pub stays-good : (q : Family) (e : Event) → Bytes e → (c : Segment) (m : Moved) → By (move (sizes q) e) c m → Good (range (sizes q)) (view c) → Good (range (sizes q)) (view (m .chip))
 stays-good q e h c m b g = moves-good (range (sizes q)) (move (sizes q) e) (view c) (view (m .chip)) (covers (m .any)) (ranged (sizes q) (proper q) e h) g b
 
-some : (t : Bool) → 2 ≤ whether t 256 lacking
-some true = omega arith
-some false = omega arith
+some : (t : Bool) (n : ℕ) → 2 ≤ n → 2 ≤ whether t n lacking
+some true n h = h
+some false n h = omega arith
 
 -- No fact has fewer than two values.
 pub two : (q : Family) (f : Fact) → 2 ≤ range (sizes q) f
 unfolding sizes
-two Pt6312 = every _ (λ i. some (ltb i (sizes Pt6312 .cells))) (omega arith) (omega arith) (omega arith) (omega arith) (omega arith) (omega arith) (omega arith) (λ i. some (ltb i 3)) (omega arith) (omega arith) (omega arith)
-two Pt6315 = every _ (λ i. some (ltb i (sizes Pt6315 .cells))) (omega arith) (omega arith) (omega arith) (omega arith) (omega arith) (omega arith) (omega arith) (λ i. some (ltb i 4)) (omega arith) (omega arith) (omega arith)
+two Pt6312 = every _ (λ i k. some (ltb i (sizes Pt6312 .cells)) 2 (omega arith)) (omega arith) (omega arith) (omega arith) (omega arith) (omega arith) (omega arith) (λ k. omega arith) (λ i. some (ltb i 3) 256 (omega arith)) (omega arith) (omega arith) (omega arith)
+two Pt6315 = every _ (λ i k. some (ltb i (sizes Pt6315 .cells)) 2 (omega arith)) (omega arith) (omega arith) (omega arith) (omega arith) (omega arith) (omega arith) (λ k. omega arith) (λ i. some (ltb i 4) 256 (omega arith)) (omega arith) (omega arith) (omega arith)

@@ -7,6 +7,7 @@ use native.Mathlib.Omega.{arith}
 use mathlib.Core.Path.{_≡_, refl}
 use lib.Dec.{ltb, eqb}
 use Rattle.rules.specs.Choice.{whether-all, of2-all, of4-all}
+use Rattle.rules.specs.Change.{setBits}
 use Rattle.rules.specs.Rule.{Rule, gives, becomes, anything, run}
 use Rattle.rules.specs.Laws.{says-by-value}
 use Rattle.terms.specs.declared.Event.{Event}
@@ -83,6 +84,7 @@ module _ (s : Sizes) (c : Fact → ℕ) (valid : ¬ (c address ≡ pointer Inval
   by-command (Start Invalid) e = refl
 
   by-data : (b a : ℕ) → c address ≡ a → Spares (stored s b a)
+  unfolding setBits
   by-data b zero h = absurd (valid h)
   by-data b (suc i) h =
       whether-all Spares (ltb i (s .cells)) _ _
@@ -90,6 +92,7 @@ module _ (s : Sizes) (c : Fact → ℕ) (valid : ¬ (c address ≡ pointer Inval
       (λ _. as-it-was)
 
   by-mode : (b d : ℕ) → Spares (written s b d)
+  unfolding setBits
   by-mode b zero = by-data b (c address) refl
   by-mode b (suc zero) = as-it-was
   by-mode b (suc (suc zero)) = as-it-was

@@ -7,8 +7,8 @@ use mathlib.Core.Logic.{_≢_}
 use lib.Dec.{ltb, eqb}
 use Rattle.rules.specs.Choice.{whether-all, of2-all, of4-all}
 use Rattle.rules.specs.Rule.{Form, value, copy, Rule, look, run}
-use Rattle.rules.specs.Change.{keep}
-use Rattle.rules.specs.Touch.{Leaves, Settles, settles, isFree, isAnything, change-leaves, AllSettle, keep-settles, change-settles}
+use Rattle.rules.specs.Change.{keep, setBits}
+use Rattle.rules.specs.Touch.{Leaves, Settles, settles, isFree, isAnything, change-leaves, AllSettle, keep-settles, change-settles, bits-settle}
 use Rattle.terms.specs.declared.Event.{Event}
 use Rattle.terms.specs.declared.Event.the-variants.{Power, Falls, ByteIn, Rises, Gap, Unfinished, Keys, Switches, ByteOut}
 use Rattle.segment.specs.declared.chip.Sizes.{Sizes}
@@ -20,7 +20,7 @@ use Rattle.segment.specs.declared.command.Command.the-variants.{Mode, Te
 use Rattle.segment.specs.Fact.{Fact, same?, cell, address, dataMode, stepping, mode, dimming, display, led, key, switches, readCount, position}
 use Rattle.segment.specs.Value.{pointer, data-mode, steps, shows, at-position}
 use Rattle.segment.specs.Command.{commandOf, Defined}
-use Rattle.segment.specs.Move.{Forms, sets, then, nothing, toMode, commanded, after, storedAt, stored, written, byteIn, move}
+use Rattle.segment.specs.Move.{Forms, sets, stores, lights, then, nothing, toMode, commanded, after, storedAt, stored, written, byteIn, move}
 
 -- The strobe and unfinished bits leave every fact alone but the position.
 pub strobe-leaves : (s : Sizes) (n : ℕ) (f : Fact) → f ≢ position → Leaves f (move s Falls) × Leaves f (move s Rises) × Leaves f (move s (Unfinished n))
@@ -51,6 +51,7 @@ inputs-commanded (Control d o) = (λ i. refl, refl)
 inputs-commanded (Start a) = (λ i. refl, refl)
 
 inputs-stored : (s : Sizes) (b a : ℕ) → LeavesInputs (stored s b a)
+unfolding setBits
 inputs-stored s b zero = (λ i. refl, refl)
 inputs-stored s b (suc i) =
     whether-all LeavesInputs (ltb i (s .cells)) _ _
@@ -58,6 +59,7 @@ inputs-stored s b (suc i) =
     (λ _. (λ i. refl, refl))
 
 pub byte-in-leaves-inputs : (s : Sizes) (b : ℕ) → LeavesInputs (move s (ByteIn b))
+unfolding setBits
 byte-in-leaves-inputs s b =
     inputs-looked position (byteIn s b)
     (λ q. of4-all LeavesInputs _ _ _ _
@@ -104,13 +106,19 @@ commanded-settles (AnySetting i) h = absurd h
 commanded-settles (Control d o) h = sets-settle dimming d _ (sets-settle display (shows o) _ (then-settles Ignoring))
 commanded-settles (Start a) h = sets-settle address (pointer a) _ (then-settles Open)
 
+stores-settle : (i b : ℕ) → AllSettle same? (stores i b keep)
+stores-settle i b = bits-settle same? (cell i) 8 b keep kept
+
+lights-settle : (b : ℕ) → AllSettle same? (lights b keep)
+lights-settle b = bits-settle same? led 4 b keep kept
+
 stored-settles : (s : Sizes) (b a : ℕ) (f : Fact) → Settles f (stored s b a)
 stored-settles s b zero f = refl
 stored-settles s b (suc i) f =
     whether-all (Settles f) (ltb i (s .cells)) _ _
     (λ _ n. of2-all (Settles f) _ _
-    (sets-settle address (pointer (after s i)) (sets (cell i) b keep) (sets-settle (cell i) b keep kept) f)
-    (sets-settle (cell i) b keep kept f) n)
+    (sets-settle address (pointer (after s i)) (stores i b keep) (stores-settle i b) f)
+    (stores-settle i b f) n)
     (λ _. refl)
 
 -- No other event leaves a fact as anything.
@@ -119,7 +127,7 @@ settled s Power h = absurd h
 settled s Falls h = sets-settle position _ keep kept
 settled s (ByteIn b) h =
     λ f q. of4-all (Settles f) _ _ _ _ refl (commanded-settles (commandOf s b) h f)
-    (λ d. of4-all (Settles f) _ _ _ _ (λ a. stored-settles s b a f) (sets-settle led (b % 16) keep kept f) refl refl d)
+    (λ d. of4-all (Settles f) _ _ _ _ (λ a. stored-settles s b a f) (lights-settle b f) refl refl d)
     refl q
 settled s Rises h = sets-settle position _ keep kept
 settled s Gap h = absurd h
@@ -145,7 +153,7 @@ byte-settles s b c h f = go (c position) refl
     open-settles : isAnything (run (look dataMode (written s b)) c f) ≡ false
     open-settles =
         settles f (look dataMode (written s b)) c
-        (λ d. of4-all (Settles f) _ _ _ _ (λ a. stored-settles s b a f) (sets-settle led (b % 16) keep kept f) refl refl d)
+        (λ d. of4-all (Settles f) _ _ _ _ (λ a. stored-settles s b a f) (lights-settle b f) refl refl d)
 
     go : (q : ℕ) → c position ≡ q → isAnything (run (byteIn s b q) c f) ≡ false
     go zero e = nothing-settles

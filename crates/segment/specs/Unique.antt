@@ -2,7 +2,8 @@
 -- fixes the value of every fact, and that it is anything or not; each value of a chip is that of a fact.
 use Prim.Native.Nat.{ℕ, zero, suc}
 use mathlib.Core.Path.{_≡_, refl, sym, _∙_}
-use lib.ListN.{length}
+use lib.ListN.{length, getD}
+use Rattle.rules.specs.Digit.{same-lamps, same-narrow}
 use Rattle.rules.specs.Choice.{of2, of4}
 use native.Mathlib.Omega.{arith}
 use Prim.Native.Nat.{_<_}
@@ -28,9 +29,10 @@ use Rattle.segment.specs.Value.{pointer, data-mode, steps, shows, at-pos
 use Rattle.segment.specs.View.{view, covers, By}
 use Rattle.segment.specs.Sent.{Sends, sentNumber}
 
--- The lists are as long as the arrays of the type. This holds of every chip that code hands over.
+-- The lists are as long as the arrays of the type, and the cells are bytes. This holds of every chip that code hands over.
 pub record Shaped (c : Segment) : Type 0 where
   pub cells : length (c .cells) ≡ 36
+  pub bytes : (i : ℕ) → getD (c .cells) i 0 < 256
   pub keys : length (c .keys) ≡ 4
 
 abbrev to-pointer : ℕ → Pointer
@@ -64,11 +66,12 @@ read-position Ignoring = refl
 -- Two chips with the same value for every fact are one.
 pub same-chip : (a b : Segment) → Shaped a → Shaped b → ((f : Fact) → view a f ≡ view b f) → a ≡ b
 same-chip a b sa sb h =
-    let cells = same-list 36 (a .cells) (b .cells) (sa .cells) (sb .cells) (λ i. h (cell i)) in
+    let cells = same-list 36 (a .cells) (b .cells) (sa .cells) (sb .cells) (λ i. same-lamps _ _ (sa .bytes i) (sb .bytes i) (λ k. h (cell i k))) in
     let where-to = by-number pointer to-pointer read-pointer (a .address) (b .address) (h address) in
     let d = by-number data-mode (of4 WriteDisplay WriteLed ReadKeys ReadSwitches) read-data (a .«data») (b .«data») (h dataMode) in
     let s = by-number steps (of2 Increment Fixed) read-steps (a .stepping) (b .stepping) (h stepping) in
     let o = by-number shows (of2 Off On) read-shows (a .display) (b .display) (h display) in
+    let lights = same-narrow 4 (a .led) (b .led) (λ k. h (led k)) in
     let keys = same-list 4 (a .keys) (b .keys) (sa .keys) (sb .keys) (λ i. h (key i)) in
     let q = by-number at-position (of4 Idle First Open Ignoring) read-position (a .position) (b .position) (h position) in
     λ i. record {
@@ -79,7 +82,7 @@ same-chip a b sa sb h =
       mode = h mode i;
       dimming = h dimming i;
       display = o i;
-      led = h led i;
+      led = lights i;
       keys = keys i;
       switches = h switches i;
       count = h readCount i;
@@ -89,7 +92,7 @@ same-chip a b sa sb h =
 same-anything : (a b : Anything) → ((f : Fact) → covers a f ≡ covers b f) → a ≡ b
 same-anything a b h =
     λ i. record {
-      memory = h (cell 0) i;
+      memory = h (cell 0 0) i;
       «data» = h dataMode i;
       settings = h address i;
       inputs = h switches i;

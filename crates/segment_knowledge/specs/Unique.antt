@@ -5,7 +5,9 @@ use mathlib.Core.Path.{_≡_, refl, sym}
 use lib.ListN.{length}
 use Rattle.knowing.specs.Join.{not-known, known-one}
 use Rattle.standing.specs.View.{same-single}
-use Rattle.standing.specs.Codes.{same-row}
+use Rattle.key_codes.specs.Codes.{same-row}
+use Rattle.lamps.specs.Lamp.{one-code}
+use Rattle.lamps.specs.Row.{one-row}
 use Rattle.segment.specs.Fact.{Fact, cell, address, dataMode, stepping, mode, dimming, display, led, key, switches, readCount, position}
 use Rattle.segment_knowledge.specs.declared.control.Pointing.{Pointing}
 use Rattle.segment_knowledge.specs.declared.control.Pointing.the-variants.{At, Invalid, Unknown}
@@ -39,7 +41,7 @@ same-pointing Unknown Unknown e = refl
 
 pub same-knowledge : (a b : Knowledge) → Shaped a → Shaped b → ((f : Fact) → kview a f ≡ kview b f) → a ≡ b
 same-knowledge a b sa sb h =
-    let cs = same-row 36 (a .cells) (b .cells) (sa .cells) (sb .cells) (λ i. h (cell i)) in
+    let cs = one-row 8 36 (a .cells) (b .cells) (sa .cells) (sb .cells) (λ i k. h (cell i k)) in
     let ks = same-row 4 (a .control .keys) (b .control .keys) (sa .keys) (sb .keys) (λ i. h (key i)) in
     let to = same-pointing (a .control .address) (b .control .address) (h address) in
     let d = same-single (a .control .«data») (b .control .«data») (h dataMode) in
@@ -47,7 +49,7 @@ same-knowledge a b sa sb h =
     let m = same-single (a .control .mode) (b .control .mode) (h mode) in
     let di = same-single (a .control .dimming) (b .control .dimming) (h dimming) in
     let o = same-single (a .control .display) (b .control .display) (h display) in
-    let l = same-single (a .control .led) (b .control .led) (h led) in
+    let l = one-code 4 (a .control .led) (b .control .led) (λ k. h (led k)) in
     let sw = same-single (a .control .switches) (b .control .switches) (h switches) in
     let n = same-single (a .control .count) (b .control .count) (h readCount) in
     let p = same-single (a .control .position) (b .control .position) (h position) in

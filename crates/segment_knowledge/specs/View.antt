@@ -6,8 +6,11 @@ use Rattle.rules.specs.Rule.{Rule}
 use Rattle.knowing.specs.Standing as Of
 use Rattle.knowing.specs.Ways as Ways
 use Rattle.segment.specs.declared.chip.Sizes.{Sizes}
-use Rattle.segment.specs.Fact.{Fact, same?, range, cell, address, dataMode, stepping, mode, dimming, display, led, key, switches, readCount, position}
-use Rattle.standing.specs.View.{stands, coded}
+use Rattle.segment.specs.Fact.{Fact, same?, range, cellBits, ledBits, cell, address, dataMode, stepping, mode, dimming, display, led, key, switches, readCount, position}
+use Rattle.standing.specs.View.{stands}
+use Rattle.key_codes.specs.View.{coded}
+use Rattle.lamps.specs.View as Lamps
+use Rattle.lamps.specs.View.{shown}
 use Rattle.segment_knowledge.specs.declared.control.Pointing.{Pointing}
 use Rattle.segment_knowledge.specs.declared.control.Pointing.the-variants.{At, Invalid, Unknown as Anywhere}
 use Rattle.segment_knowledge.specs.declared.knowledge.Knowledge.{Knowledge}
@@ -18,24 +21,24 @@ points (At a) = Of.known (suc (a .0))
 points Invalid = Of.known 0
 points Anywhere = Of.unknown
 
--- The facts beside the cells, and what is known of each cell.
-abbrev pub cview : (ℕ → Of.Standing) → Control → Fact → Of.Standing
-cview cells c (cell i) = cells i
+-- The facts beside the cells, and what is known of each bit of a cell.
+abbrev pub cview : (ℕ → ℕ → Of.Standing) → Control → Fact → Of.Standing
+cview cells c (cell i k) = cells i k
 cview cells c address = points (c .address)
 cview cells c dataMode = stands (c .«data»)
 cview cells c stepping = stands (c .stepping)
 cview cells c mode = stands (c .mode)
 cview cells c dimming = stands (c .dimming)
 cview cells c display = stands (c .display)
-cview cells c led = stands (c .led)
+cview cells c (led k) = shown ledBits (c .led) k
 cview cells c (key i) = coded (getD (c .keys) i 256)
 cview cells c switches = stands (c .switches)
 cview cells c readCount = stands (c .count)
 cview cells c position = stands (c .position)
 
 -- What is known of the cells of a row.
-abbrev pub held : List ℕ → ℕ → Of.Standing
-held cells i = coded (getD cells i 256)
+abbrev pub held : List ℕ → ℕ → ℕ → Of.Standing
+held = Lamps.held cellBits
 
 abbrev pub kview : Knowledge → Fact → Of.Standing
 kview k = cview (held (k .cells)) (k .control)

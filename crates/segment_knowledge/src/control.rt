@@ -15,7 +15,7 @@ pub enum Pointing {
     Unknown,
 }
 
-// A key byte that is 256 is unknown, and one below is known to be that.
+// The LED is a code of `lamps`, bit by bit. A key byte that is 256 is unknown, and one below is known to be that.
 pub struct Control {
     pub address: Pointing,
     pub data: Standing,
@@ -23,7 +23,7 @@ pub struct Control {
     pub mode: Standing,
     pub dimming: Standing,
     pub display: Standing,
-    pub led: Standing,
+    pub led: u16,
     pub keys: [u16; 4],
     pub switches: Standing,
     pub count: Standing,
@@ -32,7 +32,7 @@ pub struct Control {
 
 // Nothing is known.
 pub fn no_control() -> Control
-    ensures { λ r. ⌜ ((f : Fact) → cview (λ i. unknown) r f ≡ unknown) ⌝ }
+    ensures { λ r. ⌜ ((f : Fact) → cview (λ i k. unknown) r f ≡ unknown) ⌝ }
 {
     Control {
         address: Pointing::Unknown,
@@ -41,7 +41,7 @@ pub fn no_control() -> Control
         mode: Standing::Unknown,
         dimming: Standing::Unknown,
         display: Standing::Unknown,
-        led: Standing::Unknown,
+        led: 0,
         keys: [256; 4],
         switches: Standing::Unknown,
         count: Standing::Unknown,
@@ -51,7 +51,7 @@ pub fn no_control() -> Control
 
 // The same with the position known.
 pub fn at(c: Control, place: u8) -> Control
-    ensures { λ r. ⌜ ((cells : ℕ → Of·Standing) → Learns (cview cells) same? position place c r) ⌝ }
+    ensures { λ r. ⌜ ((cells : ℕ → ℕ → Of·Standing) → Learns (cview cells) same? position place c r) ⌝ }
 {
     Control {
         position: Standing::Known(place),
@@ -61,7 +61,7 @@ pub fn at(c: Control, place: u8) -> Control
 
 // The same with the data mode known.
 pub fn with_data(c: Control, mode: u8) -> Control
-    ensures { λ r. ⌜ ((cells : ℕ → Of·Standing) → Learns (cview cells) same? dataMode mode c r) ⌝ }
+    ensures { λ r. ⌜ ((cells : ℕ → ℕ → Of·Standing) → Learns (cview cells) same? dataMode mode c r) ⌝ }
 {
     Control {
         data: Standing::Known(mode),
@@ -71,7 +71,7 @@ pub fn with_data(c: Control, mode: u8) -> Control
 
 // The same with the stepping known.
 pub fn stepping_by(c: Control, step: u8) -> Control
-    ensures { λ r. ⌜ ((cells : ℕ → Of·Standing) → Learns (cview cells) same? stepping step c r) ⌝ }
+    ensures { λ r. ⌜ ((cells : ℕ → ℕ → Of·Standing) → Learns (cview cells) same? stepping step c r) ⌝ }
 {
     Control {
         stepping: Standing::Known(step),

@@ -1,7 +1,6 @@
 -- What a byte stored at an unknown address, and latched keys, make of the codes of a knowledge.
-use Prim.Native.Nat.{ℕ, suc, _+_, _*_, _<_, _≤_}
+use Prim.Native.Nat.{ℕ, suc, _<_, _≤_}
 use native.Mathlib.Omega.{arith}
-use native.Mathlib.Decide.{decLt}
 use mathlib.Core.Path.{_≡_, refl, ap, _∙_}
 use mathlib.Core.Bool.{Bool, true, false}
 use mathlib.Core.List.{List}
@@ -23,14 +22,14 @@ use Rattle.knowing.specs.Ways as Ways
 use Rattle.segment_knowledge.specs.declared.control.Control.{Control}
 use Rattle.changes.specs.declared.change.Change.the-variants.{Meet}
 use Rattle.changes.specs.Change.{seen}
-use Rattle.changes.specs.Together.{among-or-not}
+use Rattle.changes.specs.Together.{met-or-not}
 use Rattle.segment_steps.specs.declared.steps.Step.{Step}
 use Rattle.segment_steps.specs.Step.{sview, Steps}
-use Rattle.standing.specs.View.{coded}
+use Rattle.key_codes.specs.View.{coded}
 use Rattle.segment_knowledge.specs.View.{points, cview}
-use Rattle.standing.specs.Codes.{coded-set}
+use Rattle.key_codes.specs.Codes.{coded-set}
 use Rattle.segment.specs.Range.{proper}
-use Rattle.segment_known.specs.Stored.{tag, ways, plain-stay, beyond-stay, cell-common, address-lost}
+use Rattle.segment_known.specs.Stored.{tag, ways, plain-stay, bit-stay, cell-common, address-lost}
 
 -- The fourth key byte, which only some parts have.
 pub fourth-set : (v : Fact → Of.Standing) (t : Bool) (l : List ℕ) (b j : ℕ) → b < 256 → 3 < length l → ((j : ℕ) → coded (getD l j 256) ≡ v (key j))
@@ -43,7 +42,7 @@ fourth-set v false l b j small h e = go (same? (key j) (key 3))
     go (no n) = e j
 
 -- The whole of a byte stored at an unknown address.
-pub somewhere : (s : Sizes) (c : Control) (b : ℕ) → 0 < s .cells → points (c .address) ≡ Of.unknown → (cells : ℕ → Of.Standing)
+pub somewhere : (s : Sizes) (c : Control) (b : ℕ) → 0 < s .cells → points (c .address) ≡ Of.unknown → (cells : ℕ → ℕ → Of.Standing)
     → Ways.Knows (cview cells) (sview cells) same? (range s) (look address (stored s b)) c (record { control = c; change = Meet (record { 0 = 0 }) 1 (s .cells) b })
 unfolding tag
 somewhere s c b some u cells f =
@@ -51,7 +50,7 @@ somewhere s c b some u cells f =
     (every (λ (f : Fact). sview cells r f ≡ common (suc (s .cells)) (ways s b (cview cells c) f))
     at
     (u ∙ address-lost s b (cview cells c) some)
-    (plain dataMode (omega arith)) (plain stepping (omega arith)) (plain mode (omega arith)) (plain dimming (omega arith)) (plain display (omega arith)) (plain led (omega arith))
+    (plain dataMode (omega arith)) (plain stepping (omega arith)) (plain mode (omega arith)) (plain dimming (omega arith)) (plain display (omega arith)) (λ k. plain (led k) (omega arith))
     (λ i. plain (key i) (omega arith)) (plain switches (omega arith)) (plain readCount (omega arith)) (plain position (omega arith)) f)
   where
     r : Step
@@ -60,21 +59,17 @@ somewhere s c b some u cells f =
     plain : (f : Fact) → 2 ≤ tag f → cview cells c f ≡ common (suc (s .cells)) (ways s b (cview cells c) f)
     plain f h = plain-stay s b (cview cells c) f h
 
-    past : (i : ℕ) → ((j : ℕ) → j < s .cells → ¬ (i ≡ 0 + 1 * j)) → Dec (i < s .cells) → s .cells ≤ i
-    past i n (yes h) = absurd (n i h (omega arith))
-    past i n (no h) = omega arith
-
-    at : (i : ℕ) → seen (Meet (record { 0 = 0 }) 1 (s .cells) b) i (cells i) ≡ common (suc (s .cells)) (ways s b (cview cells c) (cell i))
-    at i =
-        among-or-not 0 1 (s .cells) i _ _ _ (λ j h p. cell-common s b (cview cells c) i (omega arith))
-        (λ n. beyond-stay s b (cview cells c) i (past i n (decLt i (s .cells))))
+    at : (i k : ℕ) → seen 8 (Meet (record { 0 = 0 }) 1 (s .cells) b) i k (cells i k) ≡ common (suc (s .cells)) (ways s b (cview cells c) (cell i k))
+    at i k =
+        met-or-not 8 0 1 (s .cells) b i k (cells i k) _ (λ j h p l. cell-common s b (cview cells c) i k (omega arith) l)
+        (λ n. bit-stay s b (cview cells c) i k (λ j h l e. n j h l (omega arith)))
 
 pub somewhere-steps : (p : Family) (c : Control) (b : ℕ) → points (c .address) ≡ Of.unknown
     → Steps (sizes p) (look address (stored (sizes p) b)) c (record { control = c; change = Meet (record { 0 = 0 }) 1 (sizes p .cells) b })
 somewhere-steps p c b u = record { knows = λ cells. somewhere (sizes p) c b (proper p .some) u cells; inside = (omega arith, λ j h. omega (arith, room p .0)) }
 
 -- The key bytes after they are latched.
-pub keys-coded : (s : Sizes) (cells : ℕ → Of.Standing) (c : Control) (k0 k1 k2 k3 : ℕ) (rest new : List ℕ) (i : ℕ) → k0 < 256 → k1 < 256 → k2 < 256 → k3 < 256
+pub keys-coded : (s : Sizes) (cells : ℕ → ℕ → Of.Standing) (c : Control) (k0 k1 k2 k3 : ℕ) (rest new : List ℕ) (i : ℕ) → k0 < 256 → k1 < 256 → k2 < 256 → k3 < 256
     → rest ≡ whether (ltb 3 (s .keys)) (set (c .keys) 3 k3) (c .keys) → length (c .keys) ≡ 4 → new ≡ set (set (set rest 2 k2) 1 k1) 0 k0
     → coded (getD new i 256) ≡ lifted (cview cells c) (keysLatched s k0 k1 k2 k3 (key i))
 keys-coded s cells c k0 k1 k2 k3 rest new i b0 b1 b2 b3 r n e =

@@ -1,9 +1,9 @@
 -- A data byte that goes to a known cell: everything that its rule looks at is known.
-use Prim.Native.Nat.{ℕ, suc, _+_, _<_}
+use Prim.Native.Nat.{ℕ, suc, _<_}
 use native.Mathlib.Omega.{arith}
 use mathlib.Core.Path.{_≡_, refl}
 use borrow.Author.Tests.{lt-ltb}
-use Rattle.rules.specs.Rule.{look}
+use Rattle.rules.specs.Change.{setBits}
 use mathlib.Core.Bool.{Bool, true}
 use Rattle.knowing.specs.Standing.{Standing, known, unknown}
 use Rattle.standing.specs.View.{stands}
@@ -108,6 +108,7 @@ pointing c at = record {
 pub counted : (p : Family) (c : Control) (to : Address) (b : ℕ) (next : Pointing) → Counting (sizes p) c (to .0)
     → points next ≡ known (pointer (after (sizes p) (to .0)))
     → Steps (sizes p) (move (sizes p) (ByteIn b)) c (record { control = pointing c next; change = Put to b })
+unfolding setBits
 counted p c to b next h e =
     step-known s position (byteIn s b) c 2 (λ cells. h .opened)
     (step-known s dataMode (written s b) c 0 (λ cells. h .writing)
@@ -115,7 +116,7 @@ counted p c to b next h e =
     (simp (lt-ltb (to .0) (s .cells) (h .inside))
     (step-known s stepping (storedAt s b (to .0)) c 0 (λ cells. h .stepping)
     (record {
-      knows = λ cells. every _ (λ j. put-told same? cell cells-apart (cview cells c) (to .0) b j) e refl refl refl refl refl refl (λ j. refl) refl refl refl;
+      knows = λ cells. every _ (λ j k. put-told same? cell cells-apart (cview cells c) 8 (to .0) b j k) e refl refl refl refl refl (λ k. refl) (λ j. refl) refl refl refl;
       inside = omega (arith, h .inside, room p .0);
     })))))
   where

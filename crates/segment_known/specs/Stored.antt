@@ -5,46 +5,49 @@ use native.Mathlib.Omega.{arith}
 use mathlib.Core.Path.{_≡_, refl, sym, ap, _∙_, subst⁻¹}
 use borrow.Author.Tests.{lt-ltb}
 use Rattle.rules.specs.Rule.{look}
-use Rattle.rules.specs.Change.{keep}
+use Rattle.rules.specs.Change.{keep, setBits}
+use Rattle.rules.specs.Digit.{digit}
+use Rattle.rules.specs.Touch.{bits-at, bits-leave}
 use Rattle.knowing.specs.Standing.{Standing, known, unknown}
-use Rattle.knowing.specs.Know.{learn, join, common, know}
+use Rattle.knowing.specs.Know.{lifted, learn, join, common, know}
 use Rattle.knowing.specs.Join.{not-known, known-one, same-standing, join-swap, common-each, common-same, common-two, common-apart}
 use Rattle.knowing.specs.Look.{look-known, look-unknown}
-use Rattle.knowing.specs.Changed.{set-same, set-other, learn-other}
+use Rattle.knowing.specs.Changed.{set-other, learn-other}
 use Rattle.segment.specs.declared.chip.Sizes.{Sizes}
 use Rattle.segment.specs.Value.{pointer}
 use Rattle.segment.specs.Fact.{Fact, same?, range, cell, address, dataMode, stepping, mode, dimming, display, led, key, switches, readCount, position}
 use Rattle.segment.specs.Laws.{cells-apart}
-use Rattle.segment.specs.Move.{sets, after, storedAt, stored}
+use Rattle.segment.specs.Move.{stores, after, storedAt, stored}
 
 -- Facts of different names are different.
 unfoldable pub tag : Fact → ℕ
-tag (cell i) = 0
+tag (cell i k) = 0
 tag address = 1
 tag dataMode = 2
 tag stepping = 2
 tag mode = 2
 tag dimming = 2
 tag display = 2
-tag led = 2
+tag (led k) = 2
 tag (key i) = 2
 tag switches = 2
 tag readCount = 2
 tag position = 2
 
-not-address : (j : ℕ) → cell j ≡ address → ⊥
+not-address : (j k : ℕ) → cell j k ≡ address → ⊥
 unfolding tag
-not-address j e =
+not-address j k e =
     let z : _≡_ {A = ℕ} 0 1 = ap tag e in
     omega arith
 
 module _ (s : Sizes) (b i : ℕ) where
   -- A fact other than the address and the cell.
-  stays : (l : Fact → Standing) (f : Fact) → ¬ (f ≡ address) → ¬ (f ≡ cell i) → (v : ℕ) → know same? (range s) (storedAt s b i v) l f ≡ l f
-  stays l f n m zero = set-other same? l address (pointer (after s i)) (sets (cell i) b keep) f n ∙ set-other same? l (cell i) b keep f m
-  stays l f n m (suc v) = set-other same? l (cell i) b keep f m
+  stays : (l : Fact → Standing) (f : Fact) → ¬ (f ≡ address) → ((k : ℕ) → k < 8 → ¬ (f ≡ cell i k)) → (v : ℕ) → know same? (range s) (storedAt s b i v) l f ≡ l f
+  stays l f n m zero = set-other same? l address (pointer (after s i)) (stores i b keep) f n ∙ ap (lifted l) (bits-leave same? (cell i) 8 b keep f m)
+  stays l f n m (suc v) = ap (lifted l) (bits-leave same? (cell i) 8 b keep f m)
 
-  pub rests : (l : Fact → Standing) (f : Fact) → ¬ (f ≡ address) → ¬ (f ≡ cell i) → know same? (range s) (look stepping (storedAt s b i)) l f ≡ l f
+  pub rests : (l : Fact → Standing) (f : Fact) → ¬ (f ≡ address) → ((k : ℕ) → k < 8 → ¬ (f ≡ cell i k)) → know same? (range s) (look stepping (storedAt s b i)) l f ≡ l f
+  unfolding setBits
   rests l f n m = go (l stepping) refl
     where
       each : Dec (f ≡ stepping) → l stepping ≡ unknown → common 2 (λ (w : ℕ). know same? (range s) (storedAt s b i w) (learn same? stepping w l) f) ≡ l f
@@ -57,23 +60,24 @@ module _ (s : Sizes) (b i : ℕ) where
       go (known v) e = sym (look-known same? (range s) stepping (storedAt s b i) l f v _ e refl) ∙ stays l f n m v
       go unknown e = sym (look-unknown same? (range s) stepping (storedAt s b i) l f _ e refl) ∙ each (same? f stepping) e
 
-  takes : (l : Fact → Standing) (v : ℕ) → know same? (range s) (storedAt s b i v) l (cell i) ≡ known b
-  takes l zero = set-same same? l (cell i) b keep
-  takes l (suc v) = set-same same? l (cell i) b keep
+  takes : (l : Fact → Standing) (k : ℕ) → k < 8 → (v : ℕ) → know same? (range s) (storedAt s b i v) l (cell i k) ≡ known (digit k b)
+  takes l k h zero = ap (lifted l) (bits-at same? (cell i) (λ m n q. cells-apart i m i n q .1) 8 b keep k h)
+  takes l k h (suc v) = ap (lifted l) (bits-at same? (cell i) (λ m n q. cells-apart i m i n q .1) 8 b keep k h)
 
-  -- The cell itself.
-  pub holds : (l : Fact → Standing) → know same? (range s) (look stepping (storedAt s b i)) l (cell i) ≡ known b
-  holds l = go (l stepping) refl
+  -- The cell itself, bit by bit.
+  pub holds : (l : Fact → Standing) (k : ℕ) → k < 8 → know same? (range s) (look stepping (storedAt s b i)) l (cell i k) ≡ known (digit k b)
+  holds l k h = go (l stepping) refl
     where
-      go : (t : Standing) → l stepping ≡ t → know same? (range s) (look stepping (storedAt s b i)) l (cell i) ≡ known b
-      go (known v) e = sym (look-known same? (range s) stepping (storedAt s b i) l (cell i) v _ e refl) ∙ takes l v
+      go : (t : Standing) → l stepping ≡ t → know same? (range s) (look stepping (storedAt s b i)) l (cell i k) ≡ known (digit k b)
+      go (known v) e = sym (look-known same? (range s) stepping (storedAt s b i) l (cell i k) v _ e refl) ∙ takes l k h v
       go unknown e =
-          sym (look-unknown same? (range s) stepping (storedAt s b i) l (cell i) _ e refl)
-          ∙ common-same 2 _ (known b) (omega arith) (λ w h. takes (learn same? stepping w l) w)
+          sym (look-unknown same? (range s) stepping (storedAt s b i) l (cell i k) _ e refl)
+          ∙ common-same 2 _ (known (digit k b)) (omega arith) (λ w _. takes (learn same? stepping w l) k h w)
 
 -- From a cell the address does not become invalid.
 module _ (s : Sizes) (b : ℕ) where
   behind-first : (l : Fact → Standing) → l address ≡ known 1 → (v : ℕ) → know same? (range s) (storedAt s b 0 v) l address ≡ known 0 → ⊥
+  unfolding setBits
   behind-first l e zero h =
       let z = known-one _ 0 h in
       omega arith
@@ -99,7 +103,7 @@ module _ (s : Sizes) (b : ℕ) (k : Fact → Standing) where
   at-cell : (f : Fact) (i : ℕ) (x : Standing) → i < s .cells → know same? (range s) (look stepping (storedAt s b i)) (learn same? address (suc i) k) f ≡ x → ways f (suc i) ≡ x
   at-cell f i x h e = rw (lt-ltb i (s .cells) h) e
 
-  pub rest-stay : (f : Fact) → ¬ (f ≡ address) → ((i : ℕ) → i < s .cells → ¬ (f ≡ cell i)) → k f ≡ common (suc (s .cells)) (ways f)
+  rest-stay : (f : Fact) → ¬ (f ≡ address) → ((i : ℕ) → i < s .cells → (j : ℕ) → j < 8 → ¬ (f ≡ cell i j)) → k f ≡ common (suc (s .cells)) (ways f)
   rest-stay f n m = sym (common-same (suc (s .cells)) (ways f) (k f) (omega arith) each)
     where
       each : (w : ℕ) → w < suc (s .cells) → ways f w ≡ k f
@@ -114,27 +118,25 @@ module _ (s : Sizes) (b : ℕ) (k : Fact → Standing) where
       (λ e.
       let z : tag f ≡ 1 = ap tag e in
       omega arith)
-      (λ i l e.
+      (λ i l j o e.
       let z : tag f ≡ 0 = ap tag e in
       omega arith)
 
-  -- A cell past the part's last.
-  pub beyond-stay : (j : ℕ) → s .cells ≤ j → k (cell j) ≡ common (suc (s .cells)) (ways (cell j))
-  beyond-stay j h =
-      rest-stay (cell j) (not-address j)
-      (λ i l e.
-      let z = cells-apart j i e in
-      omega arith)
+  -- A bit that no way stores: of a cell past the part's last, or past a byte's eight.
+  pub bit-stay : (j n : ℕ) → ((i : ℕ) → i < s .cells → n < 8 → ¬ (j ≡ i)) → k (cell j n) ≡ common (suc (s .cells)) (ways (cell j n))
+  bit-stay j n h =
+      rest-stay (cell j n) (not-address j n)
+      (λ i l m o e. let q = cells-apart j n i m e in h i l (omega (arith, q .1)) (q .0))
 
-  pub cell-common : (j : ℕ) → j < s .cells → join (k (cell j)) (known b) ≡ common (suc (s .cells)) (ways (cell j))
-  cell-common j l =
-      join-swap (k (cell j)) (known b)
-      ∙ sym (common-two (suc (s .cells)) (ways (cell j)) (known b) (k (cell j)) (suc j) 0 (omega arith) (omega arith) (λ e. omega arith)
-      (at-cell (cell j) j (known b) l (holds s b j (learn same? address (suc j) k))) each)
+  pub cell-common : (j n : ℕ) → j < s .cells → n < 8 → join (k (cell j n)) (known (digit n b)) ≡ common (suc (s .cells)) (ways (cell j n))
+  cell-common j n l o =
+      join-swap (k (cell j n)) (known (digit n b))
+      ∙ sym (common-two (suc (s .cells)) (ways (cell j n)) (known (digit n b)) (k (cell j n)) (suc j) 0 (omega arith) (omega arith) (λ e. omega arith)
+      (at-cell (cell j n) j (known (digit n b)) l (holds s b j (learn same? address (suc j) k) n o)) each)
     where
-      each : (w : ℕ) → w < suc (s .cells) → ¬ (w ≡ suc j) → ways (cell j) w ≡ k (cell j)
+      each : (w : ℕ) → w < suc (s .cells) → ¬ (w ≡ suc j) → ways (cell j n) w ≡ k (cell j n)
       each zero h d = refl
-      each (suc i) h d = at-cell (cell j) i (k (cell j)) (omega arith) (rests s b i (learn same? address (suc i) k) (cell j) (λ e. absurd (not-address j e)) (λ e. d (ap suc (sym (cells-apart j i e)))))
+      each (suc i) h d = at-cell (cell j n) i (k (cell j n)) (omega arith) (rests s b i (learn same? address (suc i) k) (cell j n) (λ e. absurd (not-address j n e)) (λ m _ e. d (ap suc (sym (cells-apart j n i m e .0)))))
 
   pub address-lost : 0 < s .cells → unknown ≡ common (suc (s .cells)) (ways address)
   address-lost some =

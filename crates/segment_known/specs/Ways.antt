@@ -71,7 +71,7 @@ pub count-unknown : (s : Sizes) (c : Beside) → stands (c .count) ≡ Of.unknow
 count-unknown s c u cells f =
     look-unknown same? (range s) readCount counted (cview cells c) f (cview cells c f) u
     (every (λ (f : Fact). cview cells c f ≡ common 5 (λ (w : ℕ). know same? (range s) (counted w) (learn same? readCount w (cview cells c)) f))
-    (λ i. same (cell i) (λ w. refl)) (same address (λ w. refl)) (same dataMode (λ w. refl)) (same stepping (λ w. refl)) (same mode (λ w. refl)) (same dimming (λ w. refl)) (same display (λ w. refl)) (same led (λ w. refl))
+    (λ i k. same (cell i k) (λ w. refl)) (same address (λ w. refl)) (same dataMode (λ w. refl)) (same stepping (λ w. refl)) (same mode (λ w. refl)) (same dimming (λ w. refl)) (same display (λ w. refl)) (λ k. same (led k) (λ w. refl))
     (λ i. same (key i) (λ w. refl)) (same switches (λ w. refl))
     (u ∙ sym (common-apart 5 _ 0 1 1 2 (omega arith) (omega arith) (λ e. omega arith) refl refl))
     (same position (λ w. refl)) f)
@@ -110,7 +110,7 @@ pub mode-small : (s : Sizes) (b m : ℕ) → Mode m ≡ commandOf s b → m ≤ 
 mode-small s b m e = subst⁻¹ (λ (c : Command). codeOf c ≤ s .top) e (small s b)
 
 -- An unknown mode: it may be the one that the byte names, and then only the position changes, or another, and then the display goes off too.
-pub mode-unknown : (s : Sizes) (c r a b : Beside) (m : ℕ) → m ≤ s .top → 1 ≤ s .top → stands (c .mode) ≡ Of.unknown → (cells : ℕ → Of.Standing) → Joins (cview cells) a b r
+pub mode-unknown : (s : Sizes) (c r a b : Beside) (m : ℕ) → m ≤ s .top → 1 ≤ s .top → stands (c .mode) ≡ Of.unknown → (cells : ℕ → ℕ → Of.Standing) → Joins (cview cells) a b r
     → Way (cview cells) (cview cells) same? (range s) (gives (then Ignoring)) c mode m a → Becomes (cview cells) (sets mode m (sets display (shows Off) (then Ignoring))) c b
     → Ways.Knows (cview cells) (cview cells) same? (range s) (look mode (toMode m)) c r
 mode-unknown s c r a b m small room u cells e p q f =
@@ -124,7 +124,7 @@ mode-unknown s c r a b m small room u cells e p q f =
     there w d =
         rw (ne-eqb w m d)
         (every (λ (f : Fact). lifted (learn same? mode w (cview cells c)) (sets mode m (sets display (shows Off) (then Ignoring)) f) ≡ cview cells b f)
-        (λ i. sym (q (cell i))) (sym (q address)) (sym (q dataMode)) (sym (q stepping)) (sym (q mode)) (sym (q dimming)) (sym (q display)) (sym (q led)) (λ i. sym (q (key i))) (sym (q switches))
+        (λ i k. sym (q (cell i k))) (sym (q address)) (sym (q dataMode)) (sym (q stepping)) (sym (q mode)) (sym (q dimming)) (sym (q display)) (λ k. sym (q (led k))) (λ i. sym (q (key i))) (sym (q switches))
         (sym (q readCount)) (sym (q position)) f)
 
     by : Dec (m ≡ 0) → common (suc (s .top)) (λ (w : ℕ). know same? (range s) (toMode m w) (learn same? mode w (cview cells c)) f) ≡ join (cview cells a f) (cview cells b f)

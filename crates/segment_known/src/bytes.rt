@@ -2,6 +2,8 @@
 use crate::commanded::first_in;
 use crate::commanded::known_pointing;
 use changes::Change;
+use lamps::FOUR;
+use lamps::put_byte;
 use segment::Family;
 use segment::behind;
 use segment_knowledge::Control;
@@ -25,13 +27,13 @@ use segment_steps::kept;
 use standing::Standing;
 use terms::Address;
 ghost use mathlib.Core.Path.{_≡_};
-ghost use Prim.Native.Nat.{_%_, _<_};
+ghost use Prim.Native.Nat.{_<_};
 ghost use Rattle.rules.specs.Rule.{gives, look};
 ghost use Rattle.rules.specs.Change.{keep};
 ghost use Rattle.changes.specs.declared.change.Change.the-variants.{Put};
-ghost use Rattle.segment.specs.Fact.{address, dataMode, stepping, led, position};
+ghost use Rattle.segment.specs.Fact.{address, dataMode, stepping, position};
 ghost use Rattle.segment.specs.Family.{sizes};
-ghost use Rattle.segment.specs.Move.{sets, storedAt, stored, written, byteIn};
+ghost use Rattle.segment.specs.Move.{lights, storedAt, stored, written, byteIn};
 ghost use Rattle.segment_steps.specs.Step.{Steps, Keeps};
 
 pub fn byte_in(family: Family, c: Control, byte: u8) -> Step
@@ -88,12 +90,11 @@ fn written_in(family: Family, c: Control, byte: u8, mode: u8) -> Step
 }
 
 fn led_in(family: Family, c: Control, byte: u8) -> Control
-    ensures { λ r. ⌜ Keeps (sizes family) (gives (sets led (byte % 16) keep)) c r ⌝ }
+    ensures { λ r. ⌜ Keeps (sizes family) (gives (lights byte keep)) c r ⌝ }
 {
-    Control {
-        led: Standing::Known(byte % 16),
-        ..c
-    }
+    let old = c.led;
+    let led = put_byte(FOUR, old, byte);
+    Control { led, ..c }
 }
 
 // A data byte goes to the address.

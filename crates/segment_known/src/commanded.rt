@@ -179,7 +179,7 @@ fn in_test(family: Family, c: Control) -> Control
         mode: Standing::Unknown,
         dimming: Standing::Unknown,
         display: Standing::Unknown,
-        led: Standing::Unknown,
+        led: 0,
         count: Standing::Unknown,
         position: Standing::Known(IGNORING),
         ..c

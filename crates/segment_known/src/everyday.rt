@@ -4,6 +4,7 @@ use crate::commanded::first_in;
 use crate::commanded::known_pointing;
 use changes::apply;
 use changes::meet_all;
+use lamps::EIGHT;
 use segment::Family;
 use segment::behind;
 use segment_knowledge::Control;
@@ -122,13 +123,16 @@ pub fn counted_on(family: Family, c: Control, cell: Address) -> Control
     Control { address, ..c }
 }
 
-// The byte may have gone to any cell: each keeps what it has in common with it.
+// The byte may have gone to any cell: each keeps what it has in common with it. Each part has a loop of its own, whose end is a number that the compiler
+// knows, so that it leaves no cells over.
 pub fn meets(family: Family, cells: &mut [u16], byte: u8)
     requires { ⌜ length (now cells) ≡ 36 ⌝ }
-    ensures { λ r. ⌜ Changes (Meet (record { 0 = 0 }) 1 (sizes family .cells) byte) (now (cells .entry)) (now (cells .exit)) ⌝ }
+    ensures { λ r. ⌜ Changes 8 (Meet (record { 0 = 0 }) 1 (sizes family .cells) byte) (now (cells .entry)) (now (cells .exit)) ⌝ }
 {
-    let sizes = family.sizes();
-    meet_all(cells, Address(0), 1, sizes.cells, byte);
+    match family {
+        Family::Pt6312 => meet_all(cells, EIGHT, Address(0), 1, 22, byte),
+        Family::Pt6315 => meet_all(cells, EIGHT, Address(0), 1, 36, byte),
+    }
 }
 
 // The byte is a command.
@@ -138,6 +142,6 @@ pub fn command_in(family: Family, c: Control, cells: &mut [u16], byte: u8) -> Co
 {
     let next = first_in(family, c, byte);
     let change = next.change;
-    apply(cells, change);
+    apply(cells, EIGHT, change);
     next.control
 }

@@ -4,6 +4,9 @@ use crate::latches::keys_latched;
 use crate::latches::switches_latched;
 use crate::reads::byte_out;
 use changes::apply;
+use lamps::EIGHT;
+use lamps::FOUR;
+use lamps::put_byte;
 use segment::Family;
 use segment_knowledge::Control;
 use segment_knowledge::FIRST;
@@ -50,6 +53,8 @@ fn at_power(family: Family, c: Control) -> Control
     ensures { λ r. ⌜ Forgets (sizes family) (gives (powered (sizes family))) c r ⌝ }
 {
     let sizes = family.sizes();
+    let old = c.led;
+    let led = put_byte(FOUR, old, sizes.led);
     Control {
         address: Pointing::At(Address(0)),
         data: Standing::Known(WRITE_DISPLAY),
@@ -57,7 +62,7 @@ fn at_power(family: Family, c: Control) -> Control
         mode: Standing::Known(sizes.top),
         dimming: Standing::Known(0),
         display: Standing::Known(OFF),
-        led: Standing::Known(sizes.led),
+        led,
         keys: [256; 4],
         switches: Standing::Unknown,
         count: Standing::Known(0),
@@ -72,7 +77,7 @@ pub fn taken(family: Family, c: Control, cells: &mut [u16], event: Event) -> Con
 {
     let next = step(family, c, event);
     let change = next.change;
-    apply(cells, change);
+    apply(cells, EIGHT, change);
     next.control
 }
 

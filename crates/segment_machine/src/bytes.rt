@@ -1,4 +1,5 @@
 // What a byte clocked in or out does to a chip.
+use crate::moves::lit;
 use crate::moves::unchanged;
 use segment::Data;
 use segment::Family;
@@ -40,7 +41,7 @@ fn written_in(family: Family, chip: Segment, byte: u8) -> Moved
         Data::WriteDisplay => stored_by(family, chip, byte),
         Data::WriteLed => Moved {
             chip: Segment {
-                led: byte % 16,
+                led: lit(chip.led, byte),
                 ..chip
             },
             any: NONE,

@@ -16,6 +16,8 @@ use segment::Stepping;
 use segment_commanded::at;
 use terms::Address;
 use terms::Event;
+ghost use mathlib.Core.Path.{_≡_};
+ghost use Rattle.rules.specs.Digit.{putLow};
 ghost use Rattle.rules.specs.Rule.{gives, free};
 ghost use Rattle.segment.specs.Family.{sizes};
 ghost use Rattle.segment.specs.View.{By};
@@ -44,6 +46,13 @@ pub fn unchanged(chip: Segment) -> Moved
     Moved { chip, any: NONE }
 }
 
+// The LED with the low nibble of a byte. The bits past the nibble stay, since no rule names them.
+pub fn lit(led: u8, byte: u8) -> u8
+    ensures { λ r. ⌜ r ≡ putLow 15 led byte ⌝ }
+{
+    (led ^ (led & 15)) | (byte & 15)
+}
+
 fn at_power(family: Family, chip: Segment) -> Moved
     ensures { λ r. ⌜ By (gives (powered (sizes family))) chip r ⌝ }
 {
@@ -55,7 +64,7 @@ fn at_power(family: Family, chip: Segment) -> Moved
         mode: sizes.top,
         dimming: 0,
         display: Display::Off,
-        led: sizes.led,
+        led: lit(chip.led, sizes.led),
         count: 0,
         position: Position::Idle,
         ..chip

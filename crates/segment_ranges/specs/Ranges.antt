@@ -8,8 +8,11 @@ use lib.Dec.{ltb}
 use borrow.Author.Tests.{lt-ltb, le-ltb}
 use Rattle.rules.specs.Choice.{whether}
 use Rattle.knowing.specs.Standing.{Standing, known, unknown, Within, Sound}
-use Rattle.standing.specs.View.{coded}
-use Rattle.standing.specs.Codes.{RowSound, Small, small-within}
+use Rattle.key_codes.specs.View.{coded}
+use Rattle.key_codes.specs.Codes.{RowSound, Small, small-within}
+use Rattle.lamps.specs.View.{held}
+use Rattle.lamps.specs.Lamp.{shown-small}
+use Rattle.lamps.specs.Row.{LampsSound}
 use Rattle.segment.specs.declared.chip.Sizes.{Sizes}
 use Rattle.segment.specs.Fact.{Fact, lacking, range, cell, address, dataMode, stepping, mode, dimming, display, led, key, switches, readCount, position}
 use Rattle.segment.specs.Laws.{every}
@@ -21,7 +24,7 @@ In s k f = Within (range s f) (k f)
 
 -- The single facts whose ranges both parts share.
 abbrev pub OthersSound : (Fact → Standing) → Type 0
-OthersSound k = ((Within 8 (k dimming) × Within 2 (k display)) × Within 16 (k led)) × (Within 5 (k readCount) × Within 4 (k position))
+OthersSound k = ((Within 8 (k dimming) × Within 2 (k display)) × ((j : ℕ) → Within 2 (k (led j)))) × (Within 5 (k readCount) × Within 4 (k position))
 
 abbrev pub SinglesSound : Sizes → (Fact → Standing) → Type 0
 SinglesSound s k = (((In s k address × In s k stepping) × (In s k dataMode × In s k mode)) × In s k switches) × OthersSound k
@@ -37,21 +40,36 @@ row-in l n i small h = go (decLt i n)
 in-row : (l : List ℕ) (n : ℕ) → ((i : ℕ) → Within (whether (ltb i n) 256 lacking) (coded (getD l i 256))) → RowSound l n 256
 in-row l n h i p = simp (lt-ltb i n p) at (h i)
 
+-- The same for the bits of a row, which are small numbers whatever stands there.
+lamp-in : (l : List ℕ) (n i k : ℕ) → LampsSound 8 l n → Within (whether (ltb i n) 2 lacking) (held 8 l i k)
+lamp-in l n i k h = go (decLt i n)
+  where
+    wide : (t : Standing) → Within 5 t → Within lacking t
+    wide (known v) p = omega arith
+    wide unknown p = tt
+
+    go : Dec (i < n) → Within (whether (ltb i n) 2 lacking) (held 8 l i k)
+    go (yes p) = rw (lt-ltb i n p) (h i k p)
+    go (no p) = rw (le-ltb i n (omega arith)) (wide (held 8 l i k) (shown-small 8 (getD l i 0) k))
+
+in-lamps : (l : List ℕ) (n : ℕ) → ((i k : ℕ) → Within (whether (ltb i n) 2 lacking) (held 8 l i k)) → LampsSound 8 l n
+in-lamps l n h i k p = simp (lt-ltb i n p) at (h i k)
+
 module _ (s : Sizes) (k : Knowledge) where
   abbrev pub Parts : Type 0
-  Parts = (RowSound (k .cells) (s .cells) 256 × RowSound (k .control .keys) (s .keys) 256) × SinglesSound s (kview k)
+  Parts = (LampsSound 8 (k .cells) (s .cells) × RowSound (k .control .keys) (s .keys) 256) × SinglesSound s (kview k)
 
-  pub sound-whole : Small (k .cells) → Small (k .control .keys) → Parts → Sound (range s) (kview k)
-  sound-whole small tiny p =
+  pub sound-whole : Small (k .control .keys) → Parts → Sound (range s) (kview k)
+  sound-whole tiny p =
       let a = p .1 .0 in
       let o = p .1 .1 in
-      every (λ (f : Fact). In s (kview k) f) (λ i. row-in (k .cells) (s .cells) i small (p .0 .0)) (a .0 .0 .0) (a .0 .1 .0) (a .0 .0 .1) (a .0 .1 .1) (o .0 .0 .0) (o .0 .0 .1) (o .0 .1)
+      every (λ (f : Fact). In s (kview k) f) (λ i j. lamp-in (k .cells) (s .cells) i j (p .0 .0)) (a .0 .0 .0) (a .0 .1 .0) (a .0 .0 .1) (a .0 .1 .1) (o .0 .0 .0) (o .0 .0 .1) (o .0 .1)
       (λ i. row-in (k .control .keys) (s .keys) i tiny (p .0 .1)) (a .1) (o .1 .0) (o .1 .1)
 
   pub sound-parts : Sound (range s) (kview k) → Parts
   sound-parts h = (
-    (in-row (k .cells) (s .cells) (λ i. h (cell i)), in-row (k .control .keys) (s .keys) (λ i. h (key i))),
-    ((((h address, h stepping), (h dataMode, h mode)), h switches), (((h dimming, h display), h led), (h readCount, h position))),
+    (in-lamps (k .cells) (s .cells) (λ i j. h (cell i j)), in-row (k .control .keys) (s .keys) (λ i. h (key i))),
+    ((((h address, h stepping), (h dataMode, h mode)), h switches), (((h dimming, h display), λ j. h (led j)), (h readCount, h position))),
   )
 
 -- A byte is within what a part lacks.

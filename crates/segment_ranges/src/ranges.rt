@@ -1,18 +1,24 @@
-// Number 2: whether every known value is in its fact's range. What the part lacks is never tested.
+// Number 2: whether every known value is in its fact's range, and every bit that is not known is stored as 0. What the part lacks is never tested.
+use key_codes::all_within;
+use lamps::EIGHT;
+use lamps::FOUR;
+use lamps::all_sound;
+use lamps::lamps_sound;
 use segment::Family;
 use segment_knowledge::Control;
 use segment_knowledge::Knowledge;
 use segment_knowledge::Pointing;
 use standing::Standing;
-use standing::all_within;
 use standing::both_hold;
 use standing::within;
 ghost use Prim.Native.Nat.{suc, _≤_};
 ghost use Rattle.knowing.specs.Standing.{Within, Sound, unknown};
 ghost use Rattle.segment.specs.Fact.{range, dataMode, switches};
 ghost use Rattle.segment.specs.Family.{sizes};
-ghost use Rattle.standing.specs.View.{stands, Tests};
-ghost use Rattle.standing.specs.Codes.{RowSound, Small};
+ghost use Rattle.rules.specs.Tests.{Tests};
+ghost use Rattle.standing.specs.View.{stands};
+ghost use Rattle.key_codes.specs.Codes.{RowSound, Small};
+ghost use Rattle.lamps.specs.Row.{LampsSound};
 ghost use Rattle.segment_knowledge.specs.View.{kview, cview, points};
 ghost use Rattle.segment_ranges.specs.Ranges.{SinglesSound, OthersSound};
 
@@ -32,9 +38,9 @@ pub fn sound(family: Family, k: Knowledge) -> bool
 
 fn cells_sound(cells: [u16; 36], count: u8) -> bool
     requires { ⌜ count ≤ 36 ⌝ }
-    ensures { λ r. ⌜ (Tests r (RowSound cells count 256)) × (Small cells) ⌝ }
+    ensures { λ r. ⌜ Tests r (LampsSound 8 cells count) ⌝ }
 {
-    all_within(&cells, count as usize, 256)
+    all_sound(&cells, count as usize, EIGHT)
 }
 
 fn keys_sound(keys: [u16; 4], count: u8) -> bool
@@ -46,7 +52,7 @@ fn keys_sound(keys: [u16; 4], count: u8) -> bool
 
 // The settings, the switches and the position.
 fn singles_sound(family: Family, c: Control) -> bool
-    ensures { λ r. ⌜ Tests r (SinglesSound (sizes family) (cview (λ i. unknown) c)) ⌝ }
+    ensures { λ r. ⌜ Tests r (SinglesSound (sizes family) (cview (λ i k. unknown) c)) ⌝ }
 {
     let sizes = family.sizes();
     let address = c.address;
@@ -65,7 +71,7 @@ fn singles_sound(family: Family, c: Control) -> bool
 
 // The single facts whose ranges both parts share.
 fn others_sound(c: Control) -> bool
-    ensures { λ r. ⌜ Tests r (OthersSound (cview (λ i. unknown) c)) ⌝ }
+    ensures { λ r. ⌜ Tests r (OthersSound (cview (λ i k. unknown) c)) ⌝ }
 {
     let dimming = c.dimming;
     let display = c.display;
@@ -74,7 +80,7 @@ fn others_sound(c: Control) -> bool
     let position = c.position;
     let shown = both_hold(
         both_hold(within(dimming, 8), within(display, 2)),
-        within(led, 16),
+        lamps_sound(FOUR, led),
     );
     both_hold(shown, both_hold(within(count, 5), within(position, 4)))
 }

@@ -6,8 +6,8 @@ use mathlib.Core.Bool.{Bool, true, false}
 use mathlib.Core.List.{List}
 use lib.ListN.{length, getD}
 use lib.Dec.{eqb}
-use Rattle.standing.specs.View.{coded}
-use Rattle.standing.specs.Codes.{coded-byte, default-free}
+use Rattle.key_codes.specs.View.{coded}
+use Rattle.key_codes.specs.Codes.{coded-byte, default-free}
 use borrow.Author.Tests.{lt-ltb, le-ltb}
 use Rattle.rules.specs.Choice.{whether, of4}
 use Rattle.rules.specs.Rule.{Rule, look, value}

@@ -14,14 +14,14 @@ use Rattle.sendings.specs.Report.{reports}
 
 -- What is known beside the cells.
 abbrev pub bare : Control → Fact → Standing
-bare = cview (λ i. unknown)
+bare = cview (λ i k. unknown)
 
 -- The report r is what the rule makes of c, whatever is known of the cells.
 abbrev pub Reports : Sizes → Rule Fact (Unit {0}) → Control → Sending → Type 0
-Reports s rule c r = (cells : ℕ → Standing) → Ways.Knows (cview cells) reports same? (range s) rule c r
+Reports s rule c r = (cells : ℕ → ℕ → Standing) → Ways.Knows (cview cells) reports same? (range s) rule c r
 
 -- What is in range for a whole knowledge is in range beside its cells.
 pub bare-sound : (s : Sizes) (k : Knowledge) → Sound (range s) (kview k) → Sound (range s) (bare (k .control))
 bare-sound s k h =
-    every (λ (f : Fact). Within (range s f) (bare (k .control) f)) (λ i. tt) (h address) (h dataMode) (h stepping) (h mode) (h dimming) (h display) (h led) (λ i. h (key i)) (h switches)
+    every (λ (f : Fact). Within (range s f) (bare (k .control) f)) (λ i k. tt) (h address) (h dataMode) (h stepping) (h mode) (h dimming) (h display) (λ k. h (led k)) (λ i. h (key i)) (h switches)
     (h readCount) (h position)

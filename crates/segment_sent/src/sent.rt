@@ -14,7 +14,7 @@ ghost use Prim.Native.Nat.{_<_};
 ghost use lib.ListN.{getD};
 ghost use Rattle.rules.specs.Rule.{look};
 ghost use Rattle.knowing.specs.Standing.{unknown, Within, Sound};
-ghost use Rattle.standing.specs.View.{coded};
+ghost use Rattle.key_codes.specs.View.{coded};
 ghost use Rattle.segment.specs.Family.{sizes};
 ghost use Rattle.segment.specs.Fact.{range, dataMode, readCount, switches};
 ghost use Rattle.segment.specs.Sent.{sent, sentAt, openSent, keySent, switchesSent};

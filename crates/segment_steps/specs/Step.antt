@@ -8,14 +8,14 @@ use Rattle.knowing.specs.Ways as Ways
 use Rattle.changes.specs.declared.change.Change.the-variants.{Keep, Forget}
 use Rattle.changes.specs.Change.{seen, Inside, joined}
 use Rattle.segment.specs.declared.chip.Sizes.{Sizes}
-use Rattle.segment.specs.Fact.{Fact, same?, range}
+use Rattle.segment.specs.Fact.{Fact, same?, range, cellBits}
 use Rattle.segment_knowledge.specs.declared.control.Control.{Control}
 use Rattle.segment_knowledge.specs.View.{cview}
 use Rattle.segment_steps.specs.declared.steps.Step.{Step}
 
 -- What is known after a step, by what was known of the cells before it.
-abbrev pub sview : (ℕ → Standing) → Step → Fact → Standing
-sview cells r = cview (λ i. seen (r .change) i (cells i)) (r .control)
+abbrev pub sview : (ℕ → ℕ → Standing) → Step → Fact → Standing
+sview cells r = cview (λ i k. seen cellBits (r .change) i k (cells i k)) (r .control)
 
 -- The change stays within the cells.
 abbrev pub StaysInside : Step → Type 0
@@ -27,10 +27,10 @@ Steps s = Of.Steps cview sview StaysInside same? (range s)
 
 -- The same where the cells stay, and where they are forgotten.
 abbrev pub Keeps : Sizes → Rule Fact Fact → Control → Control → Type 0
-Keeps s rule c r = (cells : ℕ → Standing) → Ways.Knows (cview cells) (cview cells) same? (range s) rule c r
+Keeps s rule c r = (cells : ℕ → ℕ → Standing) → Ways.Knows (cview cells) (cview cells) same? (range s) rule c r
 
 abbrev pub Forgets : Sizes → Rule Fact Fact → Control → Control → Type 0
-Forgets s rule c r = (cells : ℕ → Standing) → Ways.Knows (cview cells) (cview (λ i. unknown)) same? (range s) rule c r
+Forgets s rule c r = (cells : ℕ → ℕ → Standing) → Ways.Knows (cview cells) (cview (λ i k. unknown)) same? (range s) rule c r
 
 abbrev pub keptOf : Control → Step
 keptOf c = record { control = c; change = Keep }
@@ -40,5 +40,5 @@ forgottenOf c = record { control = c; change = Forget }
 
 -- The step r has in common what a and b have.
 pub record Both (a b r : Step) : Type 0 where
-  pub control : (cells : ℕ → Standing) → Ways.Joins (cview cells) (a .control) (b .control) (r .control)
+  pub control : (cells : ℕ → ℕ → Standing) → Ways.Joins (cview cells) (a .control) (b .control) (r .control)
   pub change : r .change ≡ joined (a .change) (b .change)

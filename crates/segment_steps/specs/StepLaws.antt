@@ -12,7 +12,7 @@ use Rattle.changes.specs.Change.{seen, Inside, TogetherWith, Together, Plain}
 use Rattle.changes.specs.Together.{joined-seen, joined-inside, plain-together, together-plain, plain-joined}
 use Rattle.terms.specs.declared.Address.{Address}
 use Rattle.segment.specs.declared.chip.Sizes.{Sizes}
-use Rattle.segment.specs.Fact.{Fact, same?, range, cell, address, dataMode, stepping, mode, dimming, display, led, key, switches, readCount, position}
+use Rattle.segment.specs.Fact.{Fact, same?, range, address, dataMode, stepping, mode, dimming, display, led, key, switches, readCount, position}
 use Rattle.segment.specs.Laws.{every}
 use Rattle.segment_knowledge.specs.declared.control.Control.{Control}
 use Rattle.segment_knowledge.specs.View.{cview}
@@ -32,12 +32,12 @@ as-steps {s} = Of.as-steps cview sview StaysInside same? (range s)
 pub record Told (a b : Step) : Type 0 where
   pub so : Together (a .change) (b .change)
 
-pub both-joins : {a b r : Step} → Told a b → Both a b r → (cells : ℕ → Standing) → Joins (sview cells) a b r
+pub both-joins : {a b r : Step} → Told a b → Both a b r → (cells : ℕ → ℕ → Standing) → Joins (sview cells) a b r
 both-joins {a} {b} {r} t h cells =
     let e = h .control cells in
     every (λ (f : Fact). sview cells r f ≡ join (sview cells a f) (sview cells b f))
-    (λ i. ap (λ (x : Change). seen x i (cells i)) (h .change) ∙ joined-seen (a .change) (b .change) (t .so) i (cells i))
-    (e address) (e dataMode) (e stepping) (e mode) (e dimming) (e display) (e led) (λ i. e (key i)) (e switches) (e readCount) (e position)
+    (λ i k. ap (λ (x : Change). seen 8 x i k (cells i k)) (h .change) ∙ joined-seen 8 (a .change) (b .change) (t .so) i k (cells i k))
+    (e address) (e dataMode) (e stepping) (e mode) (e dimming) (e display) (λ k. e (led k)) (λ i. e (key i)) (e switches) (e readCount) (e position)
 
 pub both-inside : {a b r : Step} → Both a b r → Inside 36 (a .change) → Inside 36 (b .change) → Inside 36 (r .change)
 both-inside {a} {b} {r} h p q = subst⁻¹ (λ (x : Change). Inside 36 x) (h .change) (joined-inside 36 (a .change) (b .change) p q)

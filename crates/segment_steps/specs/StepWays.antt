@@ -19,7 +19,7 @@ module _ (s : Sizes) (g : Fact) (κ : ℕ → Rule Fact Fact) (c : Control) wher
   abbrev pub Gathered : ℕ → Step → Type 0
   Gathered = Of.Gathered cview sview StaysInside same? (range s) g κ c
 
-  pub step-known : {r : Step} (v : ℕ) → ((cells : ℕ → Standing) → cview cells c g ≡ known v) → Steps s (κ v) c r → Steps s (look g κ) c r
+  pub step-known : {r : Step} (v : ℕ) → ((cells : ℕ → ℕ → Standing) → cview cells c g ≡ known v) → Steps s (κ v) c r → Steps s (look g κ) c r
   step-known = Of.step-known cview sview StaysInside same? (range s) g κ c
 
   pub step-first : {r : Step} (l : Control) → Learnt s g 0 c l → Steps s (κ 0) l r → Gathered 1 r
@@ -29,5 +29,5 @@ module _ (s : Sizes) (g : Fact) (κ : ℕ → Rule Fact Fact) (c : Control) wher
   step-next n l t j a e h =
       Of.step-next cview sview StaysInside same? (range s) g κ c n (both-joins t j) (both-inside j) a (Of.goes cview sview StaysInside same? (range s) g κ c (suc n) l e h)
 
-  pub step-all : {r : Step} (n : ℕ) → range s g ≡ n → ((cells : ℕ → Standing) → cview cells c g ≡ unknown) → Gathered n r → Steps s (look g κ) c r
+  pub step-all : {r : Step} (n : ℕ) → range s g ≡ n → ((cells : ℕ → ℕ → Standing) → cview cells c g ≡ unknown) → Gathered n r → Steps s (look g κ) c r
   step-all = Of.step-all cview sview StaysInside same? (range s) g κ c

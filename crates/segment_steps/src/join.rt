@@ -1,20 +1,21 @@
 // What two such have in common.
+use key_codes::join_first;
+use lamps::both_lamps;
 use segment_knowledge::Control;
 use segment_knowledge::Pointing;
 use standing::both_standing;
-use standing::join_first;
 ghost use mathlib.Core.Path.{_≡_};
 ghost use lib.ListN.{length};
 ghost use Prim.Native.Nat.{ℕ};
 ghost use Rattle.knowing.specs.Standing.{Standing as Of·Standing};
 ghost use Rattle.knowing.specs.Know.{join};
 ghost use Rattle.segment_knowledge.specs.View.{cview, points};
-ghost use Rattle.standing.specs.Codes.{Joined};
+ghost use Rattle.key_codes.specs.Codes.{Joined};
 ghost use Rattle.knowing.specs.Ways.{Joins};
 ghost use Rattle.segment_steps.specs.Both.{BothSettings};
 
 pub fn both(a: Control, b: Control) -> Control
-    ensures { λ r. ⌜ ((cells : ℕ → Of·Standing) → Joins (cview cells) a b r) ⌝ }
+    ensures { λ r. ⌜ ((cells : ℕ → ℕ → Of·Standing) → Joins (cview cells) a b r) ⌝ }
 {
     let a_keys = a.keys;
     let b_keys = b.keys;
@@ -57,7 +58,7 @@ fn both_settings(a: Control, b: Control) -> Control
     let display = both_standing(a_display, b_display);
     let a_led = a.led;
     let b_led = b.led;
-    let led = both_standing(a_led, b_led);
+    let led = both_lamps(a_led, b_led);
     let a_switches = a.switches;
     let b_switches = b.switches;
     let switches = both_standing(a_switches, b_switches);

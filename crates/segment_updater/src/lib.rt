@@ -26,7 +26,7 @@ ghost use Rattle.segment_updater.specs.Sends.{Sends};
 
 // The data setting is known to be write display and increment.
 pub fn is_set(control: Control) -> bool
-    ensures { λ r. ⌜ ((cells : ℕ → Of·Standing) → r ≡ isSet (cview cells control)) ⌝ }
+    ensures { λ r. ⌜ ((cells : ℕ → ℕ → Of·Standing) → r ≡ isSet (cview cells control)) ⌝ }
 {
     let mode = control.data;
     let step = control.stepping;

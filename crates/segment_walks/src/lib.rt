@@ -1,5 +1,6 @@
 // The walk for PT6312 and PT6315.
 use changes::put;
+use lamps::EIGHT;
 use pointing::place_of;
 use recording::Ending;
 use recording::Read;
@@ -51,7 +52,7 @@ fn walk(part: Part, family: Family, first: [u16; 36], was: Control, bytes: &[u8]
                         let to = goes_to(family, control);
                         match to {
                             Target::Cell(cell) => {
-                                put(&mut cells, cell, byte);
+                                put(&mut cells, EIGHT, cell, byte);
                                 control = counted_on(family, control, cell);
                             }
                             Target::Anywhere => meets(family, &mut cells, byte),

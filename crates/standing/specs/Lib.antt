@@ -1,2 +1,1 @@
 pub mod View
-pub mod Codes

@@ -4,7 +4,8 @@ ghost use mathlib.Core.Bool.{_&&_};
 ghost use Rattle.knowing.specs.Standing.{Within};
 ghost use Rattle.knowing.specs.Know.{join};
 ghost use Rattle.knowing.specs.Holds.{isKnown};
-ghost use Rattle.standing.specs.View.{stands, Tests};
+ghost use Rattle.rules.specs.Tests.{Tests};
+ghost use Rattle.standing.specs.View.{stands};
 
 // Known, with its value's number, or unknown.
 pub enum Standing {

@@ -1,12 +1,12 @@
 // What is counted of cells around a ring, one by one, and what is found behind the last.
-use standing::holds;
+use lamps::holds;
 ghost use mathlib.Core.Path.{_≡_};
 ghost use mathlib.Core.Bool.{not, _&&_};
 ghost use Prim.Native.Nat.{_+_, _<_};
 ghost use lib.Dec.{eqb};
 ghost use Rattle.rules.specs.Choice.{whether};
 ghost use Rattle.knowing.specs.Holds.{holds};
-ghost use Rattle.standing.specs.View.{coded};
+ghost use Rattle.lamps.specs.View.{shown};
 
 // How many cells differ, in how many runs, and the front: how many cells from 00H on end a run that goes round.
 pub struct Survey {
@@ -15,9 +15,9 @@ pub struct Survey {
     pub front: usize,
 }
 
-// The cell is not known to hold its wanted byte.
+// The cell is not known to hold its wanted byte: one of its bits is unknown or different.
 pub fn differs(code: u16, byte: u8) -> bool
-    ensures { λ r. ⌜ r ≡ not (holds (coded code) byte) ⌝ }
+    ensures { λ r. ⌜ r ≡ not (holds 8 (shown 8 code) byte) ⌝ }
 {
     !holds(code, byte)
 }

@@ -2,13 +2,13 @@
 use Prim.Native.Nat.{ℕ, suc, _+_, _*_, _/_, _%_, _≤_}
 use Prim.Native.Char.{code}
 use native.Mathlib.Omega.{arith}
-use mathlib.Core.Path.{_≡_, refl, sym, ap, _∙_}
+use mathlib.Core.Path.{_≡_, sym, ap, _∙_}
 use mathlib.Core.List.{List, [], _∷_, _++_}
 use lib.ListN.{length, length-append}
 use lib.IntN.{ℤ, pos, negsuc}
 use Rattle.text.specs.Text.{newline, decimal}
 use Rattle.text.specs.Decimal.{decimal-length}
-use Rattle.refusals.specs.Refusal.{refusedAt, refused-length}
+use Rattle.refusals.specs.Refusal.{refused-length}
 use Rattle.half_degrees.specs.Laws.{one-number}
 use Rattle.thermometer.specs.declared.temperatures.Answer.{Answer}
 use Rattle.thermometer.specs.declared.temperatures.Answer.the-variants.{Reading, NoReading, Dark, Unknown, NotAReading, NoPart, OutOfRange, NoField}

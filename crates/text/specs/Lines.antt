@@ -15,13 +15,13 @@ use Rattle.text.specs.Text.{line, lines}
 pub line-end : (width n i : ℕ) → i < n → i * width + width ≤ width * n
 line-end width n i h = omega (arith, mul-le-mul-left width h, mul-comm width (suc i), suc-mul i width)
 
-module _ (name : ℕ → List ℕ) (width n : ℕ) (cs : List ℕ) where
+module _ (full : ℕ) (name : ℕ → List ℕ) (width n : ℕ) (cs : List ℕ) where
   -- The lines from number i on.
   abbrev pub linesFrom : ℕ → List ℕ
-  linesFrom i = lines name width (n - i) i (drop (i * width) cs)
+  linesFrom i = lines full name width (n - i) i (drop (i * width) cs)
 
   abbrev pub lineAt : ℕ → List ℕ
-  lineAt i = line (name i) (take width (drop (i * width) cs))
+  lineAt i = line full (name i) (take width (drop (i * width) cs))
 
   lines-left : (i : ℕ) → i < n → linesFrom i ≡ lineAt i ++ linesFrom (i + 1)
   lines-left i h =
@@ -30,7 +30,7 @@ module _ (name : ℕ → List ℕ) (width n : ℕ) (cs : List ℕ) where
       let d : drop width (drop (i * width) cs) ≡ drop ((i + 1) * width) cs = drop-drop width (i * width) cs ∙ ap (λ (k : ℕ). drop k cs) next in
       rw (e, d, add-one i) refl
 
-  pub lines-all : linesFrom 0 ≡ lines name width n 0 cs
+  pub lines-all : linesFrom 0 ≡ lines full name width n 0 cs
   lines-all =
       let first : 0 * width ≡ 0 = omega arith in
       let all : n - 0 ≡ n = omega arith in

@@ -2,7 +2,7 @@
 use Prim.Native.Nat.{ℕ, _*_, zero, suc, _+_, _-_, _/_, _%_}
 use Prim.Native.Char.{code}
 use mathlib.Core.List.{List, [], _∷_, _++_}
-use lib.Dec.{ltb}
+use lib.Dec.{eqb, ltb}
 use lib.ListN.{take, drop}
 use Rattle.rules.specs.Choice.{whether}
 use Rattle.text.specs.declared.rows.Names.{Names}
@@ -29,24 +29,24 @@ decimalIn (suc k) n = whether (ltb n 10) (digit n ∷ []) (decimalIn k (n / 10) 
 abbrev pub decimal : ℕ → List ℕ
 decimal n = decimalIn 20 n
 
--- What is known of a cell: a code below 256 is that byte; 256 is not known, and a code above it, which number 2
--- refuses, prints the same.
-abbrev pub shown : ℕ → List ℕ
-shown c = whether (ltb c 256) (hex c) (code "?" ∷ code "?" ∷ [])
+-- What is known of a cell, by its code, whose upper byte has the marks of the bits that are known, and whose lower byte the
+-- values: where all marks are set, that value; "a cell with any bit unknown prints as ??" (M-107). `full` has all marks.
+abbrev pub shown : ℕ → ℕ → List ℕ
+shown full c = whether (eqb (c / 256) full) (hex (c % 256)) (code "?" ∷ code "?" ∷ [])
 
 -- Values, a space in front of each.
-abbrev pub values : List ℕ → List ℕ
-values [] = []
-values (c ∷ cs) = (code " " ∷ shown c) ++ values cs
+abbrev pub values : ℕ → List ℕ → List ℕ
+values full [] = []
+values full (c ∷ cs) = (code " " ∷ shown full c) ++ values full cs
 
 -- A name, a colon, and the values.
-abbrev pub line : List ℕ → List ℕ → List ℕ
-line name cs = name ++ ((code ":" ∷ []) ++ (values cs ++ (newline ∷ [])))
+abbrev pub line : ℕ → List ℕ → List ℕ → List ℕ
+line full name cs = name ++ ((code ":" ∷ []) ++ (values full cs ++ (newline ∷ [])))
 
 -- n lines of `width` values each, from line number i on, each with its name.
-abbrev pub lines : (ℕ → List ℕ) → ℕ → ℕ → ℕ → List ℕ → List ℕ
-lines name width zero i cs = []
-lines name width (suc n) i cs = line (name i) (take width cs) ++ lines name width n (suc i) (drop width cs)
+abbrev pub lines : ℕ → (ℕ → List ℕ) → ℕ → ℕ → ℕ → List ℕ → List ℕ
+lines full name width zero i cs = []
+lines full name width (suc n) i cs = line full (name i) (take width cs) ++ lines full name width n (suc i) (drop width cs)
 
 -- The name of line number i of `width` values: the address of its first cell, or the number of its character.
 abbrev pub named : Names → ℕ → ℕ → List ℕ

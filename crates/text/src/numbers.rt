@@ -22,12 +22,12 @@ pub fn hex(out: &mut [u8], at: usize, byte: u8) -> usize
     put(out, next, digit(byte % 16))
 }
 
-// A cell's two digits, or ?? where it is not known.
-pub fn shown(out: &mut [u8], at: usize, code: u16) -> usize
-    ensures { λ r. ⌜ Writes (now (out .entry)) at (Text·shown code) r (now (out .exit)) ⌝ }
+// A cell's two digits, or ?? where not all of its marks are set.
+pub fn shown(out: &mut [u8], at: usize, full: u8, code: u16) -> usize
+    ensures { λ r. ⌜ Writes (now (out .entry)) at (Text·shown full code) r (now (out .exit)) ⌝ }
 {
-    if code < 256 {
-        return hex(out, at, code as u8);
+    if code / 256 == full as u16 {
+        return hex(out, at, (code % 256) as u8);
     }
     words(out, at, b"??")
 }

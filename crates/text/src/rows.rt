@@ -1,4 +1,4 @@
-// Lines of values: a name, a colon, and what is known of each cell.
+// Lines of values: a name, a colon, and what is known of each cell. `full` has the marks of a cell of which every bit is known.
 use crate::numbers::digit;
 use crate::numbers::shown;
 use writing::put;
@@ -11,25 +11,25 @@ ghost use Rattle.text.specs.Text.{values as Text·values, line as Text·
 ghost use Rattle.text.specs.Text.{named};
 
 // Values, a space in front of each.
-fn values(out: &mut [u8], at: usize, codes: &[u16]) -> usize
-    ensures { λ r. ⌜ Writes (now (out .entry)) at (Text·values (now (codes .entry))) r (now (out .exit)) ⌝ }
+fn values(out: &mut [u8], at: usize, full: u8, codes: &[u16]) -> usize
+    ensures { λ r. ⌜ Writes (now (out .entry)) at (Text·values full (now (codes .entry))) r (now (out .exit)) ⌝ }
 {
     let mut to = at;
     let mut i = 0;
     while i < codes.len() {
         let next = put(out, to, b' ');
-        to = shown(out, next, codes[i]);
+        to = shown(out, next, full, codes[i]);
         i += 1;
     }
     to
 }
 
-pub fn line(out: &mut [u8], at: usize, name: &[u8], codes: &[u16]) -> usize
-    ensures { λ r. ⌜ Writes (now (out .entry)) at (Text·line (now (name .entry)) (now (codes .entry))) r (now (out .exit)) ⌝ }
+pub fn line(out: &mut [u8], at: usize, full: u8, name: &[u8], codes: &[u16]) -> usize
+    ensures { λ r. ⌜ Writes (now (out .entry)) at (Text·line full (now (name .entry)) (now (codes .entry))) r (now (out .exit)) ⌝ }
 {
     let named = words(out, at, name);
     let begun = put(out, named, b':');
-    let told = values(out, begun, codes);
+    let told = values(out, begun, full, codes);
     put(out, told, b'\n')
 }
 
@@ -53,25 +53,41 @@ fn name_of(names: Names, width: u8, i: u8) -> [u8; 2]
 }
 
 // Line number i.
-fn line_of(out: &mut [u8], at: usize, names: Names, width: u8, i: u8, codes: &[u16]) -> usize
+fn line_of(
+    out: &mut [u8],
+    at: usize,
+    full: u8,
+    names: Names,
+    width: u8,
+    i: u8,
+    codes: &[u16],
+) -> usize
     requires { ⌜ (i < 16) × ((i * width + width ≤ length (now codes)) × (i * width ≤ 255)) ⌝ }
-    ensures { λ r. ⌜ Writes (now (out .entry)) at (Text·line (named names width i) (take width (drop (i * width) (now (codes .entry))))) r (now (out .exit)) ⌝ }
+    ensures { λ r. ⌜ Writes (now (out .entry)) at (Text·line full (named names width i) (take width (drop (i * width) (now (codes .entry))))) r (now (out .exit)) ⌝ }
 {
     let name = name_of(names, width, i);
     let from = (i * width) as usize;
     let end = from + width as usize;
-    line(out, at, &name, &codes[from..end])
+    line(out, at, full, &name, &codes[from..end])
 }
 
 // n lines of `width` values each.
-pub fn lines(out: &mut [u8], at: usize, names: Names, width: u8, n: u8, codes: &[u16]) -> usize
+pub fn lines(
+    out: &mut [u8],
+    at: usize,
+    full: u8,
+    names: Names,
+    width: u8,
+    n: u8,
+    codes: &[u16],
+) -> usize
     requires { ⌜ (width * n ≤ length (now codes)) × ((width * n ≤ 255) × (n ≤ 16)) ⌝ }
-    ensures { λ r. ⌜ Writes (now (out .entry)) at (Text·lines (named names width) width n 0 (now (codes .entry))) r (now (out .exit)) ⌝ }
+    ensures { λ r. ⌜ Writes (now (out .entry)) at (Text·lines full (named names width) width n 0 (now (codes .entry))) r (now (out .exit)) ⌝ }
 {
     let mut to = at;
     let mut i = 0;
     while i < n {
-        to = line_of(out, to, names, width, i, codes);
+        to = line_of(out, to, full, names, width, i, codes);
         i += 1;
     }
     to

@@ -10,7 +10,7 @@ use Rattle.terms.specs.declared.Part.{Part}
 use Rattle.terms.specs.declared.Part.the-variants.{Pt6302, Pt6312, Pt6315}
 use Rattle.terms.specs.declared.PartRead.{PartRead}
 use Rattle.terms.specs.declared.PartRead.the-variants.{Is, Refused}
-use Rattle.character.specs.Fact.{Fact, range, dcram, lights, digits}
+use Rattle.character.specs.Fact.{Fact, range, dcram, lights, digits, textBits}
 use Rattle.character_knowledge.specs.View.{kview}
 use Rattle.panel.specs.declared.knowledge.Panel.{Panel}
 use Rattle.half_degrees.specs.Half.{InHalves}
@@ -60,9 +60,17 @@ pub record Answers (n : ℕ) (s : Said) (r : Answer) : Type 0 where
   pub placed : place r ≡ 0
   pub says : Says r s
 
+-- What is known of each bit of DCRAM i, and the byte that it is known to hold: a cell with any bit unknown counts as
+-- unknown (M-107).
+abbrev pub cellOf : (Fact → Standing) → ℕ → ℕ → Standing
+cellOf k i j = k (dcram i j)
+
+abbrev pub byteOf : (Fact → Standing) → ℕ → Standing
+byteOf k i = byteIn textBits (cellOf k i)
+
 -- What is told of the field that starts there, by what is known of lights, digits and the cells' bytes.
 abbrev pub temperatureOf : (Fact → Standing) → ℕ → Said
-temperatureOf k start = told (k lights) (k digits) (λ i. byteIn (k (dcram i))) start
+temperatureOf k start = told (k lights) (k digits) (byteOf k) start
 
 -- "2, then 11 for a start above 11", each exactly then.
 abbrev pub TellsField : (Fact → Standing) → ℕ → Answer → Type 0

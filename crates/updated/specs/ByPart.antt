@@ -1,13 +1,15 @@
 -- An update by the part that it is for, so that it can be spoken of where a caller has a part byte. PT6302 has none: its answer is number 1.
 use Prim.Native.Nat.{ℕ, _+_, _<_}
 use native.Mathlib.Omega.{arith}
-use mathlib.Core.Path.{_≡_, _∙_}
+use mathlib.Core.Path.{_≡_, refl, _∙_}
 use mathlib.Core.Bool.{Bool, true, false}
 use mathlib.Core.List.{List, [], _∷_, _++_, map}
 use lib.ListN.{length}
+use borrow.Author.Tests.{lt-ltb}
 use Rattle.rules.specs.Choice.{whether}
 use Rattle.rules.specs.Turn.{Surely}
 use Rattle.knowing.specs.Standing.{Standing, Fits}
+use Rattle.knowing.specs.Bytes.{Spells}
 use Rattle.knowing.specs.Turn.{inTurn}
 use Rattle.terms.specs.declared.Event.{Event}
 use Rattle.terms.specs.Event.{strobe}
@@ -39,6 +41,12 @@ abbrev pub cellsOf : Part → ℕ
 cellsOf Pt6302 = 0
 cellsOf Pt6312 = sizes OfFamily.Pt6312 .cells
 cellsOf Pt6315 = sizes OfFamily.Pt6315 .cells
+
+-- Bit j of cell i.
+abbrev pub cellIn : (p : Part) → HasRing p → ℕ → ℕ → Fact p
+cellIn Pt6302 x i j = absurd x
+cellIn Pt6312 x i j = Segment.cell i j
+cellIn Pt6315 x i j = Segment.cell i j
 
 -- The cell is unknown or different; the cells that differ, and those at which a run starts; and whether 40H is sent.
 abbrev pub differsFor : (p : Part) → (Fact p → Standing) → List ℕ → ℕ → Bool
@@ -121,3 +129,14 @@ pub reads : (p : Part) → HasRing p → (k : Fact p → Standing) (w : List ℕ
 reads Pt6302 h k w = absurd h
 reads Pt6312 h k w = Read.update-accepted Pt6312 OfFamily.Pt6312 k w
 reads Pt6315 h k w = Read.update-accepted Pt6315 OfFamily.Pt6315 k w
+
+segment-spelt : (q : Family) (k : Segment.Fact → Standing) (w : List ℕ) (i : ℕ) → i < sizes q .cells
+    → Spells 8 (λ j. knownAfter (sizes q) k w (Segment.cell i j)) (wanted w i)
+segment-spelt q k w i h j l = rw (lt-ltb i (sizes q .cells) h, lt-ltb j 8 l) refl
+
+-- Behind an update every cell is known to hold its wanted byte, each bit of it.
+pub spelt : (p : Part) (x : HasRing p) (k : Fact p → Standing) (w : List ℕ) (i : ℕ) → i < cellsOf p
+    → Spells 8 (λ j. knownFor p k w (cellIn p x i j)) (wanted w i)
+spelt Pt6302 x k w i h = absurd x
+spelt Pt6312 x k w i h = segment-spelt OfFamily.Pt6312 k w i h
+spelt Pt6315 x k w i h = segment-spelt OfFamily.Pt6315 k w i h

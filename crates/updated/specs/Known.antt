@@ -21,7 +21,7 @@ use Rattle.segment.specs.Fact.{Fact, same?, range, address, dataMode, stepping}
 use Rattle.segment.specs.Move.{sets, then, setting, commanded, move}
 use Rattle.segment.specs.Laws.{every}
 use Rattle.painting.specs.SegmentLeads.{Paintable, paintable}
-use Rattle.repainted.specs.Follows.{set-settles, filled-where, known-at-end, one-end, Follows, ends}
+use Rattle.repainted.specs.Follows.{set-settles, filled-where, filled-bits, known-at-end, one-end, Follows, ends}
 use Rattle.repainted.specs.Strobe.{From, no-more, single, row}
 use Rattle.repainted.specs.Segment.{Set, Writing, bus, then-settles, setting-settles, cell-byte}
 use Rattle.runs.specs.Runs.{wanted, run, strobesOf}
@@ -62,9 +62,9 @@ module _ (s : Sizes) (k : Fact → Standing) (w : List ℕ) where
   -- A chip that has d wherever nothing is known is updated as the knowledge is.
   updated-filled : (d : ℕ) (f : Fact) → updated s k w (filled d k) f ≡ fill d (knownAfter s k w f)
   updated-filled d =
-      every _ (λ i. filled-where d (ltb i (s .cells)) _ _) (last-filled d (starts s k w) (k address))
+      every _ (λ i j. filled-bits d (ltb i (s .cells)) (ltb j 8) _ _) (last-filled d (starts s k w) (k address))
       (filled-where d (sends40 s k w) _ _) (filled-where d (sends40 s k w) _ _)
-      refl refl refl refl (λ i. refl) refl (filled-where d (sends40 s k w) _ _) (filled-where d (nothing s k w) _ _)
+      refl refl refl (λ j. refl) (λ i. refl) refl (filled-where d (sends40 s k w) _ _) (filled-where d (nothing s k w) _ _)
 
 -- All that is known after the update.
 pub update-knows : (q : Family) (k : Fact → Standing) (w : List ℕ) (f : Fact)

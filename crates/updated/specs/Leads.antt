@@ -1,18 +1,20 @@
 -- An update leads every chip that fits the knowledge to the updated one, and writes just the cells that differ. The argument: if a cell differs, either the
 -- data setting is known to be the right one, and the chip has it, or 40H sets it; so the runs go as they are meant. The cells of the runs are those that
--- differ, and get their wanted bytes; a cell that does not differ is known to hold its wanted byte, and the chip fits, so it holds it already. If no cell
--- differs there is no run, and nothing is sent.
+-- differ, and get their wanted bytes; a cell that does not differ is known to hold its wanted byte, bit by bit, and the chip fits, so it holds it already.
+-- If no cell differs there is no run, and nothing is sent.
 use Prim.Native.Nat.{ℕ, _<_}
 use mathlib.Core.Path.{_≡_, refl, sym, ap, _∙_, subst}
 use mathlib.Core.Logic.{inl, inr}
 use mathlib.Core.Bool.{Bool, true, false, not, _&&_, true≢false}
 use mathlib.Core.List.{List, [], _∷_, _++_, map, List·Memᴰ, List·Memᴰ·not-nil}
 use lib.Dec.{ltb}
-use borrow.Author.Tests.{eqb-true, eqb-false, ltb-true, lt-ltb}
+use borrow.Author.Tests.{eqb-true, eqb-false, ltb-true, lt-ltb, not-false}
 use Rattle.rules.specs.Choice.{whether, whether-all, both}
-use Rattle.rules.specs.Turn.{Leads, surely-to}
+use Rattle.rules.specs.Digit.{digit}
+use Rattle.rules.specs.Turn.{Leads, surely-to, putBits}
 use Rattle.knowing.specs.Standing.{Standing, known, Agrees, Fits}
-use Rattle.knowing.specs.Holds.{holds, is-known}
+use Rattle.knowing.specs.Holds.{is-known}
+use Rattle.knowing.specs.Bytes.{holds-tests}
 use Rattle.terms.specs.declared.Event.{Event}
 use Rattle.terms.specs.Event.{strobe}
 use Rattle.segment.specs.declared.chip.Family.{Family}
@@ -32,7 +34,7 @@ use Rattle.runs.specs.Right.{start-inside, run-inside, covered, no-starts, some
 use Rattle.updating.specs.Update.{differs, starts, isSet, sends40, updateEvents}
 use Rattle.updating.specs.Updated.{nothing, lastAddress, updated}
 use Rattle.updated.specs.Writes.{WrittenBy, Traces, passes, traces-lead, written-listed, listed-written}
-use Rattle.updated.specs.Ran.{IsSet, Other, begins, ran, cellsOf, of-a-run, of-the-runs, ran-other, ran-address, ran-position, Given, ran-cell, over-runs}
+use Rattle.updated.specs.Ran.{IsSet, Other, begins, ran, cellsOf, of-a-run, of-the-runs, ran-other, ran-address, ran-position, bit, Given, ran-cell, over-runs}
 
 -- The chip c, behind a strobe with 40H if that is sent.
 abbrev set-up : Sizes → Bool → Chip → Chip
@@ -103,18 +105,25 @@ module _ (s : Sizes) (k : Fact → Standing) (w : List ℕ) where
     kept : (f : Fact) → put′ position 0 (in-setting s 0 (put′ position 1 c)) f ≡ c f → x f ≡ c f
     kept f e = whether-all (λ (v : ℕ). v ≡ c f) (sends40 s k w) _ _ (λ _. e) (λ _. refl)
 
-    cell-ends : (i : ℕ) → updated s k w c (cell i) ≡ ran s k w (starts s k w) x (cell i)
-    cell-ends i = go (ran-cell s k w i (starts s k w) x) (ltb i (s .cells)) refl
+    -- A cell that does not differ is known to hold its wanted byte, and has it, bit by bit.
+    has-byte : (i : ℕ) → differs s k w i ≡ false → (j : ℕ) → j < 8 → c (cell i j) ≡ digit j (wanted w i)
+    has-byte i e j l = has (cell i j) (digit j (wanted w i)) (holds-tests 8 (λ j. k (cell i j)) (wanted w i) .so (not-false _ e) j l)
+
+    cell-ends : (i j : ℕ) → updated s k w c (cell i j) ≡ ran s k w (starts s k w) x (cell i j)
+    cell-ends i j = go (ran-cell s k w i j (starts s k w) x) (ltb i (s .cells)) refl
       where
-        go : {v : ℕ} → Given s k w i (cellsOf s k w (starts s k w)) (x (cell i)) v → (t : Bool) → ltb i (s .cells) ≡ t
-            → whether (ltb i (s .cells)) (wanted w i) (c (cell i)) ≡ v
-        go (inl (m, e)) t q = rw (lt-ltb i (s .cells) (listed-differs i m .0)) (sym e)
-        go (inr (n, e)) false q = rw q (sym (e ∙ kept (cell i) refl))
-        go (inr (n, e)) true q = rw q (sym (e ∙ kept (cell i) refl ∙ held (holds (k (cell i)) (wanted w i)) refl))
+        as-before : x (cell i j) ≡ c (cell i j)
+        as-before = kept (cell i j) refl
+
+        go : {v : ℕ} → Given s k w i j (cellsOf s k w (starts s k w)) (x (cell i j)) v → (t : Bool) → ltb i (s .cells) ≡ t
+            → whether (ltb i (s .cells)) (bit w i j (c (cell i j))) (c (cell i j)) ≡ v
+        go (inl (m, e)) t q = rw (lt-ltb i (s .cells) (listed-differs i m .0)) (sym (e ∙ ap (bit w i j) as-before))
+        go (inr (n, e)) false q = rw q (sym (e ∙ as-before))
+        go (inr (n, e)) true q = rw q (sym (e ∙ as-before ∙ held (differs s k w i) refl))
           where
-            held : (b : Bool) → holds (k (cell i)) (wanted w i) ≡ b → c (cell i) ≡ wanted w i
-            held true h = has (cell i) (wanted w i) (is-known (k (cell i)) (wanted w i) h)
-            held false h = absurd (n (differs-listed i (ltb-true i (s .cells) q) (ap not h)))
+            held : (b : Bool) → differs s k w i ≡ b → c (cell i j) ≡ bit w i j (c (cell i j))
+            held true d = absurd (n (differs-listed i (ltb-true i (s .cells) q) d))
+            held false d = whether-all (λ (v : ℕ). c (cell i j) ≡ v) (ltb j 8) _ _ (λ t. has-byte i d j (ltb-true j 8 t)) (λ _. refl)
 
     position-ends : (b : Bool) → nothing s k w ≡ b → whether b (c position) 0 ≡ ran s k w (starts s k w) x position
     position-ends true e =
@@ -131,11 +140,12 @@ module _ (s : Sizes) (k : Fact → Standing) (w : List ℕ) where
     alone f h e = sym (kept f e) ∙ set-before f h
 
     ends : (f : Fact) → updated s k w c f ≡ ran s k w (starts s k w) x f
+    unfolding putBits
     ends =
         every _ cell-ends (ap (lastAddress s k w (λ a. a) (starts s k w)) (sym (kept address refl)) ∙ ran-address s k w (starts s k w) x)
         (set-before dataMode (λ y i v. (refl, refl, refl))) (set-before stepping (λ y i v. (refl, refl, refl)))
         (alone mode (λ y i v. (refl, refl, refl)) refl) (alone dimming (λ y i v. (refl, refl, refl)) refl)
-        (alone display (λ y i v. (refl, refl, refl)) refl) (alone led (λ y i v. (refl, refl, refl)) refl)
+        (alone display (λ y i v. (refl, refl, refl)) refl) (λ j. alone (led j) (λ y i v. (refl, refl, refl)) refl)
         (λ j. alone (key j) (λ y i v. (refl, refl, refl)) refl) (alone switches (λ y i v. (refl, refl, refl)) refl)
         (set-before readCount (λ y i v. (refl, refl, refl))) (position-ends (nothing s k w) refl)
 
@@ -154,7 +164,7 @@ module _ (q : Family) (k : Fact → Standing) (w : List ℕ) where
       let t = traced (sizes q) k w c fits (paintable q) in
       (λ h. listed-differs (sizes q) k w i (written-listed (sizes q) i t h), λ h e. listed-written (sizes q) i t (differs-listed (sizes q) k w i h e))
 
--- The memory is that which a painting of these cells leaves.
-pub as-painted : (q : Family) (k : Fact → Standing) (p : SegmentPicture) (c : Fact → ℕ) (i : ℕ)
-    → updated (sizes q) k (p .cells) c (cell i) ≡ painted (sizes q) p c (cell i)
-as-painted q k p c i = refl
+-- The memory is that which a painting of these cells leaves, bit by bit.
+pub as-painted : (q : Family) (k : Fact → Standing) (p : SegmentPicture) (c : Fact → ℕ) (i j : ℕ)
+    → updated (sizes q) k (p .cells) c (cell i j) ≡ painted (sizes q) p c (cell i j)
+as-painted q k p c i j = refl

@@ -1,6 +1,6 @@
 -- A chip, through runs. The argument: each run's strobe begins with a fall, so that its first byte is read as a command whatever stood before, and that
 -- command is the address at which the run starts; from there each byte is the wanted one of the cell whose turn it is, and the address steps on as the run
--- does. So a run gives its cells their wanted bytes, moves the address behind its last cell, and leaves all else alone but the position.
+-- does. So a run gives its cells their wanted bytes, bit by bit, moves the address behind its last cell, and leaves all else alone but the position.
 use Prim.Native.Nat.{ℕ, zero, suc, _+_, _<_}
 use native.Mathlib.Omega.{arith}
 use native.Mathlib.Decide.{ℕ-discrete}
@@ -18,13 +18,16 @@ use mathlib.Core.List.{
   List·Memᴰ·tail,
   List·Memᴰ·not-nil,
   List·Memᴰ·cases-cons,
+  List·Memᴰ·eq-of-singleton,
   List·Memᴰ·append-cases,
   Memᴰ·append-left,
   Memᴰ·append-right,
 }
+use lib.Dec.{ltb}
 use Rattle.rules.specs.Choice.{whether}
+use Rattle.rules.specs.Digit.{digit}
 use Rattle.rules.specs.Rule.{becomes, run}
-use Rattle.rules.specs.Turn.{put-same, put-other}
+use Rattle.rules.specs.Turn.{putBits, bits-put, bits-other}
 use Rattle.knowing.specs.Standing.{Standing}
 use Rattle.terms.specs.declared.Event.{Event}
 use Rattle.terms.specs.declared.Event.the-variants.{Falls, ByteIn, Rises}
@@ -48,9 +51,13 @@ use Rattle.updated.specs.Writes.{Writes, Moved, Traces, ends, passes, wr
 abbrev pub IsSet : Chip → Type 0
 IsSet x = (x dataMode ≡ 0) × (x stepping ≡ 0)
 
--- A fact that is no cell, nor the address, nor the position.
+-- The chip x, with each bit of cell i made that of the byte b.
+abbrev written : ℕ → ℕ → Chip → Chip
+written i b x = putBits same? (cell i) 8 b x
+
+-- A fact that is no bit of a cell, nor the address, nor the position.
 abbrev pub Other : Fact → Type 0
-Other f = (x : Chip) (i v : ℕ) → (put′ (cell i) v x f ≡ x f) × (put′ address v (put′ position i x) f ≡ x f) × (put′ position v x f ≡ x f)
+Other f = (x : Chip) (i v : ℕ) → (written i v x f ≡ x f) × (put′ address v (put′ position i x) f ≡ x f) × (put′ position v x f ≡ x f)
 
 -- A strobe falls, and its first byte is read as the command m. Neither writes a cell.
 pub begins : (s : Sizes) {es : List Event} {z : Chip} {l : List ℕ} (b : ℕ) (m : Command) (x y : Chip) → commandOf s b ≡ m
@@ -59,6 +66,18 @@ begins s b m x y e h rest = passes (put′ position 1 x) (falls s x) (λ i g. g)
   where
     none : (i : ℕ) → ¬ Writes s (ByteIn b) (put′ position 1 x) i
     none i g = omega (arith, g .0)
+
+-- Bit n of cell j, which was u, where the cell is given its wanted byte. What stands behind the bits of a byte stays.
+abbrev pub bit : List ℕ → ℕ → ℕ → ℕ → ℕ
+bit w j n u = whether (ltb n 8) (digit n (wanted w j)) u
+
+-- Given again, it is as it was given once.
+again : (w : List ℕ) (j n u : ℕ) → bit w j n (bit w j n u) ≡ bit w j n u
+again w j n u = go (ltb n 8)
+  where
+    go : (t : Bool) → whether t (digit n (wanted w j)) (whether t (digit n (wanted w j)) u) ≡ whether t (digit n (wanted w j)) u
+    go true = refl
+    go false = refl
 
 module _ (s : Sizes) (k : Fact → Standing) (w : List ℕ) where
   -- The words of runs, for the cells that differ.
@@ -77,7 +96,7 @@ module _ (s : Sizes) (k : Fact → Standing) (w : List ℕ) where
   -- The chip x, with these cells given their wanted bytes.
   abbrev filled : List ℕ → Chip → Chip
   filled [] x = x
-  filled (i ∷ l) x = filled l (put′ (cell i) (wanted w i) x)
+  filled (i ∷ l) x = filled l (written i (wanted w i) x)
 
   -- The same, with the address at cell e, and the strobe risen.
   abbrev risen : ℕ → List ℕ → Chip → Chip
@@ -118,6 +137,7 @@ module _ (s : Sizes) (k : Fact → Standing) (w : List ℕ) where
       h (at-start s e y) 0 0 .2 ∙ h y 2 (suc e) .1 ∙ filled-other f h (cellsIn i) (put′ position 1 x) ∙ h x 0 1 .2
 
   still-set : (i : ℕ) (x : Chip) → IsSet x → IsSet (ranOne i x)
+  unfolding putBits
   still-set i x h = (ran-one-other dataMode (λ y j v. (refl, refl, refl)) i x ∙ h .0, ran-one-other stepping (λ y j v. (refl, refl, refl)) i x ∙ h .1)
 
   -- What runs leave alone; the address and the position behind them; and the cells.
@@ -133,39 +153,43 @@ module _ (s : Sizes) (k : Fact → Standing) (w : List ℕ) where
   ran-position [] x h = h
   ran-position (i ∷ is) x h = ran-position is (ranOne i x) refl
 
-  -- Cell j, that held u, holds v: its wanted byte if it is one of l, and u else.
-  abbrev pub Given : ℕ → List ℕ → ℕ → ℕ → Type 0
-  Given j l u v = (List·Memᴰ j l × (v ≡ wanted w j)) ⊎ ((¬ List·Memᴰ j l) × (v ≡ u))
+  -- Bit n of cell j, which was u, is v: that of its wanted byte if the cell is one of l, and u else.
+  abbrev pub Given : ℕ → ℕ → List ℕ → ℕ → ℕ → Type 0
+  Given j n l u v = (List·Memᴰ j l × (v ≡ bit w j n u)) ⊎ ((¬ List·Memᴰ j l) × (v ≡ u))
 
-  filled-cell : (j : ℕ) (l : List ℕ) (x : Chip) → Given j l (x (cell j)) (filled l x (cell j))
-  filled-cell j [] x = inr (λ h. List·Memᴰ·not-nil h, refl)
-  filled-cell j (i ∷ l) x = go (ℕ-discrete j i) (filled-cell j l (put′ (cell i) (wanted w i) x))
-    where
-      go : {v : ℕ} → Dec (j ≡ i) → Given j l (put′ (cell i) (wanted w i) x (cell j)) v → Given j (i ∷ l) (x (cell j)) v
-      go d (inl (m, e)) = inl (List·Memᴰ·tail m, e)
-      go (yes p) (inr (n, e)) = inl (List·Memᴰ·head p, e ∙ rw p (put-same same? (cell i) (wanted w i) x))
-      go (no q) (inr (n, e)) =
-          inr (λ h. ⊎-elim q n (List·Memᴰ·cases-cons h), e ∙ put-other same? (cell i) (cell j) (wanted w i) x (λ p. q (cells-apart j i p)))
+  -- The cells of a are given their bytes, and behind them those of l.
+  then-given : (j n : ℕ) (a l : List ℕ) {u y v : ℕ} → Given j n l y v → Given j n a u y → Given j n (a ++ l) u v
+  then-given j n a l (inl (m, e)) (inl (o, d)) = inl (Memᴰ·append-left l o, e ∙ ap (bit w j n) d ∙ again w j n _)
+  then-given j n a l (inl (m, e)) (inr (p, d)) = inl (Memᴰ·append-right a m, e ∙ ap (bit w j n) d)
+  then-given j n a l (inr (q, e)) (inl (o, d)) = inl (Memᴰ·append-left l o, e ∙ d)
+  then-given j n a l (inr (q, e)) (inr (p, d)) = inr (λ h. ⊎-elim p q (List·Memᴰ·append-cases a h), e ∙ d)
 
-  pub ran-cell : (j : ℕ) (is : List ℕ) (x : Chip) → Given j (cellsOf is) (x (cell j)) (ran is x (cell j))
-  ran-cell j [] x = inr (λ h. List·Memᴰ·not-nil h, refl)
-  ran-cell j (i ∷ is) x = go (ran-cell j is (ranOne i x)) (filled-cell j (cellsIn i) (put′ position 1 x))
+  one-given : (j n i : ℕ) (x : Chip) → Given j n (i ∷ []) (x (cell j n)) (written i (wanted w i) x (cell j n))
+  one-given j n i x = go (ℕ-discrete j i)
     where
-      go : {v : ℕ} → Given j (cellsOf is) (ranOne i x (cell j)) v → Given j (cellsIn i) (x (cell j)) (ranOne i x (cell j))
-          → Given j (cellsOf (i ∷ is)) (x (cell j)) v
-      go (inl (m, e)) one = inl (Memᴰ·append-right (cellsIn i) m, e)
-      go (inr (n, e)) (inl (m, d)) = inl (Memᴰ·append-left (cellsOf is) m, e ∙ d)
-      go (inr (n, e)) (inr (o, d)) = inr (λ h. ⊎-elim o n (List·Memᴰ·append-cases (cellsIn i) h), e ∙ d)
+      go : Dec (j ≡ i) → Given j n (i ∷ []) (x (cell j n)) (written i (wanted w i) x (cell j n))
+      go (yes p) = inl (List·Memᴰ·head p, rw p (bits-put same? (cell i) (λ a b q. cells-apart i a i b q .1) 8 (wanted w i) x n))
+      go (no q) =
+          inr (λ h. q (List·Memᴰ·eq-of-singleton h), bits-other same? (cell i) 8 (wanted w i) x (cell j n) (λ m _ p. q (cells-apart j n i m p .0)))
+
+  filled-cell : (j n : ℕ) (l : List ℕ) (x : Chip) → Given j n l (x (cell j n)) (filled l x (cell j n))
+  filled-cell j n [] x = inr (λ h. List·Memᴰ·not-nil h, refl)
+  filled-cell j n (i ∷ l) x = then-given j n (i ∷ []) l (filled-cell j n l (written i (wanted w i) x)) (one-given j n i x)
+
+  pub ran-cell : (j n : ℕ) (is : List ℕ) (x : Chip) → Given j n (cellsOf is) (x (cell j n)) (ran is x (cell j n))
+  ran-cell j n [] x = inr (λ h. List·Memᴰ·not-nil h, refl)
+  ran-cell j n (i ∷ is) x = then-given j n (cellsIn i) (cellsOf is) (ran-cell j n is (ranOne i x)) (filled-cell j n (cellsIn i) (put′ position 1 x))
 
   -- A byte at cell i, and the address steps on.
   abbrev stepped : ℕ → Chip → Chip
-  stepped i x = at-start s (next i) (put′ (cell i) (wanted w i) x)
+  stepped i x = at-start s (next i) (written i (wanted w i) x)
 
   steps-on : (i : ℕ) (x : Chip) → i < s .cells → IsSet x → Moved s (ByteIn (wanted w i)) (at-start s i x) (stepped i x)
+  unfolding putBits
   steps-on i x h set f = cell-moves s i (wanted w i) (at-start s i x) h refl (set .0) (set .1) refl f ∙ ap becomes (same f)
     where
-      same : (f : Fact) → put′ address (suc (next i)) (put′ (cell i) (wanted w i) (at-start s i x)) f ≡ stepped i x f
-      same = every _ (λ j. refl) refl refl refl refl refl refl refl (λ j. refl) refl refl refl
+      same : (f : Fact) → put′ address (suc (next i)) (written i (wanted w i) (at-start s i x)) f ≡ stepped i x f
+      same = every _ (λ j k. refl) refl refl refl refl refl refl (λ k. refl) (λ j. refl) refl refl refl
 
   -- The bytes of these cells, the rise behind them, and what follows.
   abbrev sent : List ℕ → List Event → List Event
@@ -173,9 +197,10 @@ module _ (s : Sizes) (k : Fact → Standing) (w : List ℕ) where
 
   over-row : {es : List Event} {z : Chip} {l : List ℕ} (m i : ℕ) (x : Chip) → i < s .cells → IsSet x
       → Traces s es (risen (rowEnd m i) (row m i) x) z l → Traces s (sent (row m i) es) (at-start s i x) z (row m i ++ l)
+  unfolding putBits
   over-row zero i x h set rest = passes (put′ position 0 (at-start s i x)) (rises s (at-start s i x)) (λ j g. g) rest
   over-row {es} {z} {l} (suc m) i x h set rest =
-      go (differs s k w i) (λ t. over-row m (next i) (put′ (cell i) (wanted w i) x) (behind-inside (s .cells) i h) set t) rest
+      go (differs s k w i) (λ t. over-row m (next i) (written i (wanted w i) x) (behind-inside (s .cells) i h) set t) rest
     where
       go : (b : Bool)
           → (Traces s es (risen (rowEnd m (next i)) (i ∷ row m (next i)) x) z l → Traces s (sent (row m (next i)) es) (stepped i x) z (row m (next i) ++ l))

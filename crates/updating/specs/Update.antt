@@ -13,7 +13,7 @@ use Rattle.terms.specs.Event.{strobe}
 use Rattle.segment.specs.declared.chip.Sizes.{Sizes}
 use Rattle.segment.specs.declared.chip.Data.the-variants.{WriteDisplay}
 use Rattle.segment.specs.declared.chip.Stepping.the-variants.{Increment}
-use Rattle.segment.specs.Fact.{Fact, cell, dataMode, stepping}
+use Rattle.segment.specs.Fact.{Fact, cell, dataMode, stepping, cellBits}
 use Rattle.segment.specs.Value.{data-mode, steps}
 use Rattle.runs.specs.Runs as Runs
 
@@ -39,9 +39,9 @@ abbrev pub isSet : (Fact → Standing) → Bool
 isSet k = isKnown (k dataMode) (data-mode WriteDisplay) && isKnown (k stepping) (steps Increment)
 
 module _ (s : Sizes) (k : Fact → Standing) (w : List ℕ) where
-  -- The cell is unknown or different.
+  -- The cell is unknown or different: not every bit of it is known to be the wanted byte's (M-107).
   abbrev pub differs : ℕ → Bool
-  differs i = not (holds (k (cell i)) (Runs.wanted w i))
+  differs i = not (holds cellBits (λ j. k (cell i j)) (Runs.wanted w i))
 
   -- The cells that differ, and those at which a run starts; and whether 40H is sent.
   abbrev pub differing : List ℕ

@@ -2,11 +2,12 @@
 -- comes to one form for each fact. If each of these forms is a value, what the fact itself was, or anything, a
 -- knowledge loses nothing by it: a chip that fits the new knowledge is a result of one that fitted the old, namely of
 -- the one that has the same wherever the rule keeps a fact, and anything that fits elsewhere.
-use Prim.Native.Nat.{ℕ, _<_, _≤_}
+use Prim.Native.Nat.{ℕ, zero, suc, _<_, _≤_}
 use native.Mathlib.Omega.{arith}
 use mathlib.Core.Path.{_≡_, refl, sym, ap, _∙_, subst, subst⁻¹}
 use Rattle.rules.specs.Rule.{Form, value, copy, free, Rule, gives, look, Outcome, outcome, run}
-use Rattle.rules.specs.Change.{keep, change}
+use Rattle.rules.specs.Digit.{digit}
+use Rattle.rules.specs.Change.{keep, change, setBits}
 use Rattle.rules.specs.Range.{Good}
 use Rattle.rules.specs.Turn.{Allows, Result}
 use Rattle.knowing.specs.Standing.{Standing, known, Agrees, Fits, Sound}
@@ -44,6 +45,11 @@ module _ {F : Type 0} (Steers : F → Type 0) where
       go : (d : Dec (f ≡ g)) → Own f (elim d [ yes _ ↦ x | no _ ↦ φ f ])
       go (yes e) = subst⁻¹ (λ (y : F). Own y x) e h
       go (no n) = k f
+
+  pub bits-own : (same? : Discrete F) (at : ℕ → F) (n b : ℕ) (φ : F → Form F) → AllOwn φ → AllOwn (setBits same? at n b φ)
+  unfolding setBits
+  bits-own same? at zero b φ h = h
+  bits-own same? at (suc n) b φ h = change-own same? (at n) (value (digit n b)) (setBits same? at n b φ) tt (bits-own same? at n b φ h)
 
   module _ (same? : Discrete F) (range : F → ℕ) where
     -- The forms to which the rule comes, for the knowledge and for every chip that fits it.

@@ -4,13 +4,11 @@
 -- what is known at the end is what all fitting chips end with (`Whole`).
 use Prim.Native.Nat.{ℕ, _<_}
 use native.Mathlib.Omega.{arith}
-use mathlib.Core.Path.{_≡_, refl, ap}
-use mathlib.Core.Bool.{Bool, false}
+use mathlib.Core.Path.{_≡_, refl}
+use mathlib.Core.Bool.{false}
 use mathlib.Core.List.{List, map}
-use Rattle.rules.specs.Rule.{Rule}
-use Rattle.rules.specs.Range.{Good}
 use Rattle.rules.specs.Turn.{Result}
-use Rattle.knowing.specs.Standing.{Standing, known, Fits, Sound}
+use Rattle.knowing.specs.Standing.{Standing, Sound}
 use Rattle.knowing.specs.Fill.{fill, filled, filled-fits, filled-good}
 use Rattle.terms.specs.declared.Event.{Event}
 use Rattle.terms.specs.Event.{Bytes}
@@ -42,14 +40,14 @@ Steers Pt6315 = Segment.Steers
 segment-steered : (k : SegmentFact.Fact → Standing) → ((f : SegmentFact.Fact) → SegmentFact.sort f ≡ SegmentFact.setting → IsKnown (k f)) → IsKnown (k SegmentFact.position)
     → KnowsSteering Segment.Steers k
 segment-steered k h q =
-    SegmentLaws.every _ (λ i n. absurd n) (λ _. h SegmentFact.address refl) (λ _. h SegmentFact.dataMode refl) (λ _. h SegmentFact.stepping refl)
-    (λ _. h SegmentFact.mode refl) (λ _. h SegmentFact.dimming refl) (λ _. h SegmentFact.display refl) (λ _. h SegmentFact.led refl)
+    SegmentLaws.every _ (λ i j n. absurd n) (λ _. h SegmentFact.address refl) (λ _. h SegmentFact.dataMode refl) (λ _. h SegmentFact.stepping refl)
+    (λ _. h SegmentFact.mode refl) (λ _. h SegmentFact.dimming refl) (λ _. h SegmentFact.display refl) (λ j n. h (SegmentFact.led j) (Segment.led-asked j n))
     (λ i n. absurd n) (λ n. absurd n) (λ _. h SegmentFact.readCount refl) (λ _. q)
 
 steered : (p : Part) (k : Fact p → Standing) → StartKnows p k → KnowsSteering (Steers p) k
 steered Pt6302 k h =
-    CharacterLaws.every _ (λ i n. absurd n) (λ i n. absurd n) (λ i n. absurd n) (λ _. h .settings CharacterFact.dcramAt refl) (λ _. h .settings CharacterFact.cgramAt refl)
-    (λ _. h .settings CharacterFact.adramAt refl) (λ _. h .settings CharacterFact.column refl) (λ _. h .settings CharacterFact.port refl)
+    CharacterLaws.every _ (λ i j n. absurd n) (λ i j n. absurd n) (λ i j n. absurd n) (λ _. h .settings CharacterFact.dcramAt refl) (λ _. h .settings CharacterFact.cgramAt refl)
+    (λ _. h .settings CharacterFact.adramAt refl) (λ _. h .settings CharacterFact.column refl) (λ j n. h .settings (CharacterFact.port j) (Character.port-asked j n))
     (λ _. h .settings CharacterFact.duty refl) (λ _. h .settings CharacterFact.digits refl) (λ _. h .settings CharacterFact.lights refl) (λ _. h .position-known)
 steered Pt6312 k h = segment-steered k (h .settings) (h .position-known)
 steered Pt6315 k h = segment-steered k (h .settings) (h .position-known)

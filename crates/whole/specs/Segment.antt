@@ -10,7 +10,7 @@ use lib.Dec.{ltb, eqb}
 use borrow.Author.Tests.{ne-eqb}
 use Rattle.rules.specs.Choice.{whether-all, of2-all, of4-all}
 use Rattle.rules.specs.Rule.{value, copy, Rule, look, run}
-use Rattle.rules.specs.Change.{keep}
+use Rattle.rules.specs.Change.{keep, setBits}
 use Rattle.rules.specs.Touch.{Leaves}
 use Rattle.rules.specs.Turn.{Allows, Result}
 use Rattle.knowing.specs.Standing.{Standing, known}
@@ -25,11 +25,11 @@ use Rattle.segment.specs.declared.command.Command.the-variants.{Mode, Test, Set
 use Rattle.segment.specs.Fact.{Fact, cell, address, dataMode, stepping, mode, dimming, display, led, key, switches, readCount, position, same?, range, Sort, memory, setting, input, transfer, sort}
 use Rattle.segment.specs.Value.{pointer, data-mode, steps, shows, at-position}
 use Rattle.segment.specs.Command.{commandOf, Defined}
-use Rattle.segment.specs.Move.{Forms, sets, then, commanded, after, stored, written, byteIn, counted, move}
+use Rattle.segment.specs.Move.{Forms, sets, stores, lights, then, commanded, after, stored, written, byteIn, counted, move}
 use Rattle.segment.specs.Touch.{byte-out-leaves}
 use Rattle.segment.specs.Laws.{every}
 use Rattle.whole.specs.Sentence.{isGap, awaits}
-use Rattle.whole.specs.Clear.{Own, AllOwn, Clear, keep-own, change-own}
+use Rattle.whole.specs.Clear.{Own, AllOwn, Clear, keep-own, change-own, bits-own}
 use Rattle.whole.specs.Usual.{UsualAt}
 use Rattle.whole.specs.Awaits.{isFirst, Sets, set-so, left-so}
 
@@ -43,6 +43,10 @@ Asked transfer = Unit
 -- What the start is asked to know, and all that rules look at.
 abbrev pub Steers : Fact → Type 0
 Steers f = Asked (sort f)
+
+-- A bit of the LED that the start is asked to know is a setting.
+pub led-asked : (j : ℕ) → Steers (led j) → sort (led j) ≡ setting
+led-asked j = whether-all (λ (t : Sort). Asked t → t ≡ setting) (ltb j 4) setting memory (λ _ _. refl) (λ _ n. absurd n)
 
 -- The event is no gap and, where the position is known to be first byte, no undefined command.
 abbrev pub Usual : Sizes → Event → (Fact → Standing) → Type 0
@@ -59,6 +63,12 @@ kept = keep-own Steers
 
 then-fine : (q : Position) → Fine (then q)
 then-fine q = sets-fine position (at-position q) keep kept
+
+stores-fine : (i b : ℕ) → Fine (stores i b keep)
+stores-fine i b = bits-own Steers same? (cell i) 8 b keep kept
+
+lights-fine : (b : ℕ) → Fine (lights b keep)
+lights-fine b = bits-own Steers same? led 4 b keep kept
 
 module _ (s : Sizes) (k : Fact → Standing) where
   abbrev Clears : Rule Fact Fact → Type 0
@@ -80,7 +90,7 @@ module _ (s : Sizes) (k : Fact → Standing) where
   stored-clear b zero = kept
   stored-clear b (suc i) =
       whether-all Clears (ltb i (s .cells)) _ _
-      (λ _. (tt, λ n _. of2-all Clears _ _ (sets-fine address (pointer (after s i)) _ (sets-fine (cell i) b keep kept)) (sets-fine (cell i) b keep kept) n))
+      (λ _. (tt, λ n _. of2-all Clears _ _ (sets-fine address (pointer (after s i)) _ (stores-fine i b)) (stores-fine i b) n))
       (λ _. kept)
 
   -- A byte, by the position: only a first byte is a command.
@@ -89,7 +99,7 @@ module _ (s : Sizes) (k : Fact → Standing) where
   byte-clear b (suc zero) h = commanded-clear (commandOf s b) (h refl)
   byte-clear b (suc (suc zero)) h = (
     tt,
-    λ d _. of4-all Clears _ _ _ _ (tt, λ a _. stored-clear b a) (sets-fine led (b % 16) keep kept) kept kept d,
+    λ d _. of4-all Clears _ _ _ _ (tt, λ a _. stored-clear b a) (lights-fine b) kept kept d,
   )
   byte-clear b (suc (suc (suc n))) h = kept
 
@@ -98,7 +108,7 @@ module _ (s : Sizes) (k : Fact → Standing) where
 
 -- Every event but a gap and an undefined command is clear.
 pub clear : (s : Sizes) (e : Event) (k : Fact → Standing) → Usual s e k → Clear Steers (move s e) k
-clear s Power k h = every _ (λ i n. n) tt tt tt tt tt tt tt (λ i n. n) (λ n. n) tt tt
+clear s Power k h = every _ (λ i j n. n) tt tt tt tt tt tt (λ j. lights-fine (s .led) (led j)) (λ i n. n) (λ n. n) tt tt
 clear s Falls k h = then-fine First
 clear s (ByteIn b) k h = (tt, λ q e. byte-clear s k b q (λ p. h (e ∙ ap known p)))
 clear s Rises k h = then-fine Idle
@@ -119,10 +129,12 @@ clear s ByteOut k h = (
 
 -- Whether the position is first byte after an event, by the chip before it.
 position-stored : (s : Sizes) (b a : ℕ) → Leaves position (stored s b a)
+unfolding setBits
 position-stored s b zero = refl
 position-stored s b (suc i) = whether-all (Leaves position) (ltb i (s .cells)) _ _ (λ _ n. of2-all (Leaves position) _ _ refl refl n) (λ _. refl)
 
 position-written : (s : Sizes) (b d : ℕ) → Leaves position (written s b d)
+unfolding setBits
 position-written s b d = of4-all (Leaves position) _ _ _ _ (position-stored s b) refl refl refl d
 
 abbrev NotFirst : ℕ → Type 0

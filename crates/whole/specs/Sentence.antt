@@ -1,6 +1,7 @@
 -- Demand 3's last sentence, word by word: "Where the start knows all settings and the transfer position, and the
 -- recording has no gap and no undefined command, a memory cell is known at the end exactly when every fitting chip
--- ends with the same content there."
+-- ends with the same content there." Since M-107 a memory cell, the LED and the port are known bit by bit: the premise asks for
+-- every bit of LED and port, and what is known of a cell is said of each of its bits.
 use Prim.Native.Nat.{ℕ}
 use mathlib.Core.Path.{_≡_}
 use mathlib.Core.Bool.{Bool, true, false, _||_}
@@ -112,7 +113,7 @@ abbrev pub startsFirst : Part → Standing → Bool
 startsFirst p (known q) = eqb q (firstByte p)
 startsFirst p unknown = false
 
--- 4. "A memory cell".
+-- 4. "A memory cell": a bit of one. A bit past the LED's or the port's width, which no part has, counts with these.
 
 abbrev pub IsMemory : (p : Part) → Fact p → Type 0
 IsMemory Pt6302 f = Character.sort f ≡ Character.memory

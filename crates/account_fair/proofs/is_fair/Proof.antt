@@ -4,7 +4,7 @@ use native.Mathlib.Omega.{arith}
 use mathlib.Core.Bool.{true≢false}
 use mathlib.Core.Path.{sym, _∙_}
 use borrow.Author.Tests.{not-true, not-false}
-use Rattle.standing.specs.View.{tells-as}
+use Rattle.rules.specs.Tests.{tells-as}
 use Rattle.account_fair.specs.Laws.{not-so}
 use borrow.Author.Needs.{needs}
 use Rattle.account_fair.proofs.is_fair.Statement.{statement}

@@ -13,6 +13,7 @@ use Rattle.recording.specs.Tests.{record-fits}
 use Rattle.recording.specs.Walk.{walked, done, next}
 use Rattle.recording.specs.declared.ending.Ending.the-variants.{Stops}
 use Rattle.terms.specs.declared.Place.{Place}
+use Rattle.lamps.specs.Lamp.{wide8, wide7, wide2}
 use Rattle.character.specs.Move.{move}
 use Rattle.character.specs.Fact.{same?, range}
 use Rattle.character_knowledge.specs.declared.knowledge.Knowledge.{Knowledge}
@@ -165,11 +166,11 @@ loop-again c = let a = c .before .before .before .before .before .before .before
     (⊎-elim
     (λ x. arrived k (x .1 .given .1) (x .3) (x .4) (x .5) (x .6) size (x .2 .ensures (memory k)))
     (⊎-elim
-    (λ x. arrived k (x .1 .given .1) (x .11) (x .12) (x .13) (x .14) (x .9 .given, size .1) (applied (move (ByteIn (x .1 .given .0 .0))) k _ (x .8 .last .0) (at .cgram) (at .adram) (x .10 .ensures (x .1 .given .0 .0)) (x .8 .ensures) (λ i. refl) (λ i. refl)))
+    (λ x. arrived k (x .1 .given .1) (x .11) (x .12) (x .13) (x .14) (x .9 .given, size .1) (applied (move (ByteIn (x .1 .given .0 .0))) k _ (x .8 .last .0) (at .cgram) (at .adram) (x .10 .ensures (x .1 .given .0 .0)) (x .8 .ensures 8 wide8) (λ i n. refl) (λ i n. refl)))
     (⊎-elim
-    (λ x. arrived k (x .1 .given .1) (x .12) (x .13) (x .14) (x .15) (size .0, (x .10 .given, size .1 .1)) (applied (move (ByteIn (x .1 .given .0 .0))) k _ (at .dcram) (x .9 .last .0) (at .adram) (x .11 .ensures (x .1 .given .0 .0)) (λ i. refl) (rw (x .8 .ensures) at (x .9 .ensures)) (λ i. refl)))
+    (λ x. arrived k (x .1 .given .1) (x .12) (x .13) (x .14) (x .15) (size .0, (x .10 .given, size .1 .1)) (applied (move (ByteIn (x .1 .given .0 .0))) k _ (at .dcram) (x .9 .last .0) (at .adram) (x .11 .ensures (x .1 .given .0 .0)) (λ i n. refl) (rw (x .8 .ensures) at (x .9 .ensures 7 wide7)) (λ i n. refl)))
     (⊎-elim
-    (λ x. arrived k (x .1 .given .1) (x .11) (x .12) (x .13) (x .14) (size .0, (size .1 .0, x .9 .given)) (applied (move (ByteIn (x .1 .given .0 .0))) k _ (at .dcram) (at .cgram) (x .8 .last .0) (x .10 .ensures (x .1 .given .0 .0)) (λ i. refl) (λ i. refl) (x .8 .ensures)))
+    (λ x. arrived k (x .1 .given .1) (x .11) (x .12) (x .13) (x .14) (size .0, (size .1 .0, x .9 .given)) (applied (move (ByteIn (x .1 .given .0 .0))) k _ (at .dcram) (at .cgram) (x .8 .last .0) (x .10 .ensures (x .1 .given .0 .0)) (λ i n. refl) (λ i n. refl) (x .8 .ensures 2 wide2)))
     (⊎-elim
     (λ x. arrived k (x .1 .given .1) (x .13) (x .14) (x .15) (x .16) (x .10 .given, (x .11 .given, x .12 .given)) (x .9 .ensures))
     (λ x. arrived k refl (x .8) (x .9) (x .10) (x .11) (x .5 .given, (x .6 .given, x .7 .given)) (x .4 .ensures))))))) (c .match2 .came) in

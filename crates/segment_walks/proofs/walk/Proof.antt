@@ -10,6 +10,7 @@ use Rattle.recording.specs.Tests.{record-fits}
 use Rattle.recording.specs.Walk.{walked, done, next}
 use Rattle.recording.specs.declared.ending.Ending.the-variants.{Stops}
 use Rattle.terms.specs.declared.Place.{Place}
+use Rattle.lamps.specs.Lamp.{wide8}
 use Rattle.segment.specs.Fact.{same?, range}
 use Rattle.segment.specs.Family.{sizes}
 use Rattle.segment.specs.Move.{move}
@@ -154,11 +155,11 @@ loop-again c = let a = c .before .before .before .before .before .before .before
     (⊎-elim
     (λ x. arrived (a .family) k (x .1 .given .1) (x .3) (x .4) (search needs) (x .2 .ensures (sizes (a .family)) (held (at .cells))))
     (⊎-elim
-    (λ x. arrived (a .family) k (x .1 .given .1) (x .11) (x .12) (x .9 .given) (step-done (a .family) k (ByteIn (x .1 .given .0 .0)) _ (x .8 .last .0) (x .10 .ensures (x .1 .given .0 .0)) (x .8 .ensures)))
+    (λ x. arrived (a .family) k (x .1 .given .1) (x .11) (x .12) (x .9 .given) (step-done (a .family) k (ByteIn (x .1 .given .0 .0)) _ (x .8 .last .0) (x .10 .ensures (x .1 .given .0 .0)) (x .8 .ensures 8 wide8)))
     (⊎-elim
     (λ x. arrived (a .family) k (x .1 .given .1) (x .9) (x .10) (x .8 .given) (step-done (a .family) k (ByteIn (x .1 .given .0 .0)) _ (x .7 .last .1 .0) (roamed (a .family) (at .control) (x .1 .given .0 .0) (hit _ _ (x .5 .given .1) (x .3 .ensures))) (x .7 .ensures)))
     (⊎-elim
-    (λ x. arrived (a .family) k (x .1 .given .1) (x .6) (x .7) (search needs) (step-done (a .family) k (ByteIn (x .1 .given .0 .0)) (keptOf (at .control)) (at .cells) (ignored (a .family) (at .control) (x .1 .given .0 .0) (hit _ _ (x .5 .given .1) (x .3 .ensures))) (λ i. refl)))
+    (λ x. arrived (a .family) k (x .1 .given .1) (x .6) (x .7) (search needs) (step-done (a .family) k (ByteIn (x .1 .given .0 .0)) (keptOf (at .control)) (at .cells) (ignored (a .family) (at .control) (x .1 .given .0 .0) (hit _ _ (x .5 .given .1) (x .3 .ensures))) (λ i j. refl)))
     (⊎-elim
     (λ x. arrived (a .family) k (x .1 .given .1) (x .9) (x .10) (x .8 .given) (x .7 .ensures))
     (⊎-elim

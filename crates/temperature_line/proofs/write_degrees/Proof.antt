@@ -1,6 +1,6 @@
 -- `temperature_line::write_degrees` meets its contract: a minus stands in front where the half degrees are below nought. Assumes nothing.
 use lib.IntN.{pos}
-use mathlib.Core.Bool.{Bool, true, false}
+use mathlib.Core.Bool.{Bool, true}
 use mathlib.Core.Path.{subst}
 use lib.Ieee.Exact.{HasValue}
 use Rattle.writing.specs.Laws.{writes-then}

@@ -1,8 +1,6 @@
--- `changes::rows::apply` meets its contract: each kind of change is done to the codes that it names.
--- Assumes nothing.
-use mathlib.Core.Path.{refl, ap, subst, subst⁻¹}
+-- `changes::rows::apply` meets its contract: each kind of change is done to the codes that it names. Assumes nothing.
+use mathlib.Core.Path.{refl, subst, subst⁻¹}
 use lib.ListN.{length}
-use Rattle.standing.specs.View.{coded}
 use Rattle.changes.specs.Change.{Changes, Inside}
 use Rattle.changes.specs.declared.change.Change.{Change}
 use borrow.Author.Needs.{needs}
@@ -31,25 +29,25 @@ forget-requires : tie.Need-forget-requires
 forget-requires c κs = search needs
 
 returns : tie.Need-returns
-returns c = subst⁻¹ (λ (x : Change). Changes x (c .before .before .before .args .codes .now) (c .before .before .before .args .codes .now)) (c .enum-told .given .1) (λ i. refl)
+returns c = λ w W. subst⁻¹ (λ (x : Change). Changes w x (c .before .before .before .args .codes .now) (c .before .before .before .args .codes .now)) (c .enum-told .given .1) (λ i k. refl)
 
 same-length : tie.Need-same-length
 same-length c = search needs
 
 returns-2 : tie.Need-returns-2
-returns-2 c = subst⁻¹ (λ (x : Change). Changes x (c .before .before .before .before .before .before .before .before .args .codes .now) (c .before .before .put .last .0)) (c .before .before .before .before .before .change .given .1) (c .before .before .put .ensures)
+returns-2 c = λ w W. subst⁻¹ (λ (x : Change). Changes w x (c .before .before .before .before .before .before .before .before .args .codes .now) (c .before .before .put .last .0)) (c .before .before .before .before .before .change .given .1) (c .before .before .put .ensures w W)
 
 same-length-2 : tie.Need-same-length-2
 same-length-2 c = search needs
 
 returns-3 : tie.Need-returns-3
-returns-3 c = subst⁻¹ (λ (x : Change). Changes x (c .before .before .before .before .before .before .before .before .args .codes .now) (c .before .before .meet-all .last .0)) (c .before .before .before .before .before .change2 .given .1) (c .before .before .meet-all .ensures)
+returns-3 c = λ w W. subst⁻¹ (λ (x : Change). Changes w x (c .before .before .before .before .before .before .before .before .args .codes .now) (c .before .before .meet-all .last .0)) (c .before .before .before .before .before .change2 .given .1) (c .before .before .meet-all .ensures w W)
 
 same-length-3 : tie.Need-same-length-3
 same-length-3 c = search needs
 
 returns-4 : tie.Need-returns-4
-returns-4 c = subst⁻¹ (λ (x : Change). Changes x (c .before .before .before .before .before .before .before .args .codes .now) (c .before .before .forget .last .0)) (c .before .before .before .before .enum-told2 .given .1) (λ i. ap coded (c .before .before .forget .ensures i))
+returns-4 c = λ w W. subst⁻¹ (λ (x : Change). Changes w x (c .before .before .before .before .before .before .before .args .codes .now) (c .before .before .forget .last .0)) (c .before .before .before .before .enum-told2 .given .1) (c .before .before .forget .ensures w)
 
 pub apply-spec : {M : Type 1} → statement M
 apply-spec =

@@ -1,5 +1,4 @@
--- `changes::rows::forget` meets its contract: all codes below the index are forgotten.
--- Assumes nothing.
+-- `changes::rows::forget` meets its contract: all codes below the index are forgotten. Assumes nothing.
 use borrow.Author.Needs.{needs}
 use Prim.Native.Nat.{ℕ, _<_, _≤_, _-_}
 use native.Mathlib.Omega.{arith}
@@ -11,7 +10,7 @@ use Rattle.changes.proofs.rows.forget.Tie as tie
 
 abbrev Inv-loop : tie.InvT-loop
 Inv-loop codes₀ i₀ codes i =
-    (i ≤ length codes) × (length codes ≡ length codes₀) × ((j : ℕ) → j < i → getD codes j 256 ≡ 256)
+    (i ≤ length codes) × (length codes ≡ length codes₀) × ((j : ℕ) → j < i → getD codes j 0 ≡ 0)
 
 abbrev μ-loop : tie.MeasureT-loop
 μ-loop codes₀ i₀ codes i = length codes - i
@@ -34,7 +33,7 @@ loop-less c = simp length-set (omega arith)
 loop-again : tie.Need-loop-again Inv-loop μ-loop
 loop-again c = (
   simp length-set (omega (arith, c .loop-test .taken)),
-  length-set (c .before .loop .codes) (c .before .loop .i) 256 ∙ c .before .loop .inv .1,
+  length-set (c .before .loop .codes) (c .before .loop .i) 0 ∙ c .before .loop .inv .1,
   forgot-more (c .before .loop .codes) (c .before .loop .i) (c .before .loop .inv .2) (c .loop-test .taken),
 )
 
@@ -42,7 +41,7 @@ same-length : tie.Need-same-length Inv-loop μ-loop
 same-length c = search needs
 
 returns : tie.Need-returns Inv-loop μ-loop
-returns c = forgot-all (c .before .loop .codes) (c .before .loop .i) (c .before .loop .inv .2) (omega arith)
+returns c = λ w. forgot-all w (c .before .loop .codes) (c .before .loop .i) (c .before .loop .inv .2) (omega arith)
 
 pub forget-spec : {M : Type 1} → statement M
 forget-spec =

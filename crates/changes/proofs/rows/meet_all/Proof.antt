@@ -1,9 +1,10 @@
--- `changes::rows::meet_all` meets its contract: codes side by side and codes apart are met in loops of their own.
--- Assumes nothing.
+-- `changes::rows::meet_all` meets its contract: codes side by side and codes apart are met in loops of their own. Assumes nothing.
 use Prim.Native.Nat.{ℕ, _+_, _*_, _<_}
 use native.Mathlib.Omega.{arith}
-use mathlib.Core.Path.{_≡_, sym, subst, subst⁻¹}
+use mathlib.Core.Path.{subst, subst⁻¹}
 use lib.ListN.{length}
+use Rattle.lamps.specs.Lamp.{metCode}
+use Rattle.lamps.specs.Row.{Met}
 use Rattle.changes.specs.Change.{Changes}
 use Rattle.changes.specs.declared.change.Change.the-variants.{Meet}
 use Rattle.changes.specs.Together.{met-seen}
@@ -14,9 +15,13 @@ use Rattle.changes.proofs.rows.meet_all.Tie as tie
 cast-at : tie.Need-cast-at
 cast-at c = search needs
 
+code-of-requires : tie.Need-code-of-requires
+code-of-requires c κs = search needs
+
 meet-run-requires : tie.Need-meet-run-requires
 meet-run-requires c κs = λ i l.
-    subst (λ (n : ℕ). c .before .before .before .before .args .from .0 + n * i < length (c .before .before .before .before .args .codes .now)) (c .before .if1 .taken) (c .before .before .before .before .pre .1 i (omega (arith, l)))
+    let s = c .before .before .before .before .before in
+    subst (λ (n : ℕ). s .args .from .0 + n * i < length (s .args .codes .now)) (c .before .if1 .taken) (s .pre .1 i (omega (arith, l)))
 
 meet-requires : tie.Need-meet-requires
 meet-requires c κs = search needs
@@ -25,16 +30,26 @@ same-length : tie.Need-same-length
 same-length c = search needs
 
 returns : tie.Need-returns
-returns c = subst⁻¹ (λ (n : ℕ). Changes (Meet (c .before .before .before .before .before .before .before .args .from) n (c .before .before .before .before .before .before .before .args .count) (c .before .before .before .before .before .before .before .args .byte)) (c .before .before .before .before .before .before .before .args .codes .now) (c .before .before .meet-run .last .0)) (c .before .before .before .before .if1 .taken)
-    (λ i. met-seen (c .before .before .before .before .before .before .before .args .codes .now) (c .before .before .meet-run .last .0) (c .before .before .before .before .before .before .before .args .from .0) 1 (c .before .before .before .before .before .before .before .args .byte) (c .before .before .before .before .before .before .before .args .count) i (omega (arith, c .before .before .before .before .before .before .before .fits .byte)) (c .before .before .meet-run .ensures))
+returns c = λ w W.
+    let o = c .before .before .before .before .before in
+    let s = o .before .before .before in
+    let a = s .args in
+    subst⁻¹ (λ (n : ℕ). Changes w (Meet (a .from) n (a .count) (a .byte)) (a .codes .now) (c .before .before .meet-run .last .0)) (c .before .before .before .before .if1 .taken)
+    (λ i k. met-seen w (a .wide) (a .codes .now) (c .before .before .meet-run .last .0) (a .from .0) 1 (a .byte) (a .count) i k W (s .fits .byte .fits) (λ j. o .before .before .slice-known .given j .fits)
+    (subst (λ (b : ℕ). Met (λ (x : ℕ). metCode (a .wide) x b) (a .codes .now) (a .from .0) 1 (a .count) (c .before .before .meet-run .last .0)) (o .code-of .ensures) (c .before .before .meet-run .ensures)))
 
 same-length-2 : tie.Need-same-length-2
 same-length-2 c = search needs
 
 returns-2 : tie.Need-returns-2
-returns-2 c = λ i. met-seen (c .before .before .before .before .before .before .before .args .codes .now) (c .before .before .meet .last .0) (c .before .before .before .before .before .before .before .args .from .0) (c .before .before .before .before .before .before .before .args .by) (c .before .before .before .before .before .before .before .args .byte) (c .before .before .before .before .before .before .before .args .count) i (omega (arith, c .before .before .before .before .before .before .before .fits .byte)) (c .before .before .meet .ensures)
+returns-2 c = λ w W i k.
+    let o = c .before .before .before .before .before in
+    let s = o .before .before .before in
+    let a = s .args in
+    met-seen w (a .wide) (a .codes .now) (c .before .before .meet .last .0) (a .from .0) (a .by) (a .byte) (a .count) i k W (s .fits .byte .fits) (λ j. o .before .before .slice-known .given j .fits)
+    (subst (λ (b : ℕ). Met (λ (x : ℕ). metCode (a .wide) x b) (a .codes .now) (a .from .0) (a .by) (a .count) (c .before .before .meet .last .0)) (o .code-of .ensures) (c .before .before .meet .ensures))
 
 pub meet-all-spec : {M : Type 1} → statement M
 meet-all-spec =
     tie.close
-    (tie.spec cast-at meet-run-requires meet-requires same-length returns same-length-2 returns-2)
+    (tie.spec cast-at code-of-requires meet-run-requires meet-requires same-length returns same-length-2 returns-2)

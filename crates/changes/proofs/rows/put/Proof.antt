@@ -1,6 +1,8 @@
--- `changes::rows::put` meets its contract: the code at the place is the byte, and the others are as they were.
--- Assumes nothing.
-use native.Mathlib.Omega.{arith}
+-- `changes::rows::put` meets its contract: the code at the place has the byte put, and the others are as they were. Assumes nothing.
+use Prim.Native.Nat.{ℕ}
+use mathlib.Core.Path.{ap, _∙_}
+use lib.ListN.{set}
+use Rattle.lamps.specs.View.{held}
 use Rattle.changes.specs.Together.{put-seen}
 use borrow.Author.Needs.{needs}
 use Rattle.changes.proofs.rows.put.Statement.{statement}
@@ -8,6 +10,15 @@ use Rattle.changes.proofs.rows.put.Tie as tie
 
 cast-i : tie.Need-cast-i
 cast-i c = search needs
+
+mul-put-byte : tie.Need-mul-put-byte
+mul-put-byte c = search needs
+
+slice-read-put-byte : tie.Need-slice-read-put-byte
+slice-read-put-byte c = search needs
+
+put-byte-requires : tie.Need-put-byte-requires
+put-byte-requires c κs = search needs
 
 mul-codes : tie.Need-mul-codes
 mul-codes c = search needs
@@ -19,7 +30,21 @@ same-length : tie.Need-same-length
 same-length c = search needs
 
 returns : tie.Need-returns
-returns c = λ i. put-seen (c .before .args .codes .now) (c .before .args .cell .0) (c .before .args .byte) i (omega (arith, c .before .fits .byte)) (c .before .pre)
+returns c = λ w W i k.
+    let s = c .before .before .before .before in
+    let a = s .args in
+    ap (λ (x : ℕ). held w (set (a .codes .now) (a .cell .0) x) i k) (c .put-byte .ensures .0)
+    ∙ put-seen w (a .wide) (a .byte) (a .codes .now) (a .cell .0) i k W (s .fits .byte .fits) (λ j. c .before .before .before .slice-known .given j .fits) (s .pre)
 
 pub put-spec : {M : Type 1} → statement M
-put-spec = tie.close (tie.spec cast-i mul-codes slice-write-codes same-length returns)
+put-spec =
+    tie.close
+    (tie.spec
+    cast-i
+    mul-put-byte
+    slice-read-put-byte
+    put-byte-requires
+    mul-codes
+    slice-write-codes
+    same-length
+    returns)

@@ -28,8 +28,8 @@ returns-2 c = let a = c .before .before .args in
     let u = ap stands (c .enum-told .given .1) in (
       record {
         knows = λ m. place-open (cview m (a .c)) _ (a .byte)
-            (every _ (λ i n. refl) (λ i n. absurd (n refl)) (λ i n. refl) (λ n. refl) (λ n. absurd (n refl)) (λ n. refl) (λ n. absurd (n refl)) (λ n. refl) (λ n. refl) (λ n. refl) (λ n. refl) (λ n. refl))
-            p u (λ i. refl) p u;
+            (every _ (λ i k n. refl) (λ i k n. absurd (n refl)) (λ i k n. refl) (λ n. refl) (λ n. absurd (n refl)) (λ n. refl) (λ n. absurd (n refl)) (λ k n. refl) (λ n. refl) (λ n. refl) (λ n. refl) (λ n. refl))
+            p u (λ i k. refl) p u;
         inside = (tt, ((omega arith, λ j h. omega arith), tt));
       },
       (tt, tt),

@@ -17,8 +17,8 @@ returns c = let a = c .args in
     let p = c .pre in (
       record {
         knows = λ m. character-open (cview m (a .c)) _ (a .byte)
-            (every _ (λ i n. refl) (λ i n. absurd (n refl)) (λ i n. refl) (λ n. refl) (λ n. absurd (n refl)) (λ n. refl) (λ n. absurd (n refl)) (λ n. refl) (λ n. refl) (λ n. refl) (λ n. refl) (λ n. refl))
-            (a .number) (p .0) (p .1) (λ i. refl) (p .0) refl;
+            (every _ (λ i k n. refl) (λ i k n. absurd (n refl)) (λ i k n. refl) (λ n. refl) (λ n. absurd (n refl)) (λ n. refl) (λ n. absurd (n refl)) (λ k n. refl) (λ n. refl) (λ n. refl) (λ n. refl) (λ n. refl))
+            (a .number) (p .0) (p .1) (λ i k. refl) (p .0) refl;
         inside = (tt, ((omega arith, λ j h. omega arith), tt));
       },
       (tt, tt),

@@ -6,7 +6,7 @@ use Rattle.character_known.proofs.commanded.digits_set.Statement.{state
 use Rattle.character_known.proofs.commanded.digits_set.Tie as tie
 
 returns : tie.Need-returns
-returns c = λ m. every _ (λ i. refl) (λ i. refl) (λ i. refl) refl refl refl refl refl refl refl refl refl
+returns c = λ m. every _ (λ i k. refl) (λ i k. refl) (λ i k. refl) refl refl refl refl (λ k. refl) refl refl refl refl
 
 pub digits-set-spec : {M : Type 1} → statement M
 digits-set-spec = tie.close (tie.spec returns)

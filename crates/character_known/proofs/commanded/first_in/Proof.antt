@@ -4,7 +4,7 @@ use mathlib.Core.Path.{refl, sym, ap, _∙_}
 use Rattle.knowing.specs.Ways.{learnt}
 use Rattle.rules.specs.Rule.{gives}
 use Rattle.character.specs.Fact.{same?, dcramAt, cgramAt, adramAt, column, port, duty, digits, lights, position}
-use Rattle.character.specs.Laws.{every}
+use Rattle.character.specs.Laws.{every, port-undefined}
 use Rattle.character.specs.Move.{commanded}
 use Rattle.character_knowledge.specs.View.{blank, cview}
 use Rattle.character_steps.specs.Steps.{kept-steps, forgotten-steps, kept-plain, forgotten-plain, same-rule}
@@ -127,7 +127,7 @@ returns-9 : tie.Need-returns-9
 returns-9 c = let u = c .before .before .no-control .ensures in
     let e = c .before .at2 .ensures blank in (
       same-rule (ap (λ x. gives (commanded x)) (sym (c .before .before .before .before .before .command-of .ensures) ∙ c .before .before .before .enum-told2 .given .1))
-          (forgotten-steps (c .forgotten .ensures) (λ m. every _ (λ i. refl) (λ i. refl) (λ i. refl) (e dcramAt ∙ u dcramAt) (e cgramAt ∙ u cgramAt) (e adramAt ∙ u adramAt) (e column ∙ u column) (e port ∙ u port) (e duty ∙ u duty) (e digits ∙ u digits) (e lights ∙ u lights) (e position))),
+          (forgotten-steps (c .forgotten .ensures) (λ m. every _ (λ i k. refl) (λ i k. refl) (λ i k. refl) (e dcramAt ∙ u dcramAt) (e cgramAt ∙ u cgramAt) (e adramAt ∙ u adramAt) (e column ∙ u column) (λ k. rw (port-undefined k) (e (port k) ∙ u (port k))) (e duty ∙ u duty) (e digits ∙ u digits) (e lights ∙ u lights) (e position))),
       forgotten-plain (c .forgotten .ensures),
     )
 

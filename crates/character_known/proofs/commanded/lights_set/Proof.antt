@@ -11,7 +11,7 @@ lights-number-requires : tie.Need-lights-number-requires
 lights-number-requires c κs = search needs
 
 returns : tie.Need-returns
-returns c = λ m. every _ (λ i. refl) (λ i. refl) (λ i. refl) refl refl refl refl refl refl refl (ap known (c .lights-number .ensures)) refl
+returns c = λ m. every _ (λ i k. refl) (λ i k. refl) (λ i k. refl) refl refl refl refl (λ k. refl) refl refl (ap known (c .lights-number .ensures)) refl
 
 pub lights-set-spec : {M : Type 1} → statement M
 lights-set-spec = tie.close (tie.spec lights-number-requires returns)

@@ -1,5 +1,6 @@
 -- `character_known::moves::taken` meets its contract: the step is the rule, and each row is changed as it says, within it.
 -- Assumes nothing.
+use Rattle.lamps.specs.Lamp.{wide8, wide7, wide2}
 use Rattle.character.specs.Move.{move}
 use Rattle.character_steps.specs.Steps.{applied}
 use borrow.Author.Needs.{needs}
@@ -29,7 +30,7 @@ same-length-3 c = search needs
 
 returns : tie.Need-returns
 returns c = let a = c .before .before .before .before .before .before .before .before .before .before .before .before .before .before .before .before .before .args in
-    applied (move (a .event)) (record { dcram = a .dcram .now; cgram = a .cgram .now; adram = a .adram .now; control = a .c }) (c .before .before .before .before .before .before .before .before .before .before .before .before .before .step .result) (c .before .before .before .before .before .before .before .before .before .before .before .apply .last .0) (c .before .before .before .before .before .before .before .apply2 .last .0) (c .before .before .before .apply3 .last .0) (c .before .before .before .before .before .before .before .before .before .before .before .before .before .step .ensures) (c .before .before .before .before .before .before .before .before .before .before .before .apply .ensures) (c .before .before .before .before .before .before .before .apply2 .ensures) (c .before .before .before .apply3 .ensures)
+    applied (move (a .event)) (record { dcram = a .dcram .now; cgram = a .cgram .now; adram = a .adram .now; control = a .c }) (c .before .before .before .before .before .before .before .before .before .before .before .before .before .step .result) (c .before .before .before .before .before .before .before .before .before .before .before .apply .last .0) (c .before .before .before .before .before .before .before .apply2 .last .0) (c .before .before .before .apply3 .last .0) (c .before .before .before .before .before .before .before .before .before .before .before .before .before .step .ensures) (c .before .before .before .before .before .before .before .before .before .before .before .apply .ensures 8 wide8) (c .before .before .before .before .before .before .before .apply2 .ensures 7 wide7) (c .before .before .before .apply3 .ensures 2 wide2)
 
 pub taken-spec : {M : Type 1} → statement M
 taken-spec =

@@ -1,6 +1,10 @@
 -- `character_machine::commanded::commanded` meets its contract: each arm knows its command; what it stores, with the position that `at` gives, is the rule fact by fact.
 -- Assumes nothing.
-use Rattle.character.specs.Laws.{every}
+use mathlib.Core.Path.{refl, _∙_}
+use Rattle.rules.specs.Change.{setBits}
+use Rattle.character.specs.Move.{then}
+use Rattle.character.specs.declared.chip.Position.the-variants.{Ignoring}
+use Rattle.character.specs.Laws.{every, port-set}
 use Rattle.character.specs.Fact.{dcram, cgram, adram, dcramAt, cgramAt, adramAt, column, port, duty, digits, lights, position}
 use borrow.Author.Needs.{needs}
 use Rattle.character_machine.proofs.commanded.commanded.Statement.{statement}
@@ -61,25 +65,31 @@ left-open-requires : tie.Need-left-open-requires
 left-open-requires c κs = search needs
 
 returns : tie.Need-returns
-returns c = rw (c .before .before .before .before .before .before .before .command .given .1) (let h = c .at .ensures in every _ (λ i. h (dcram i)) (λ i. h (cgram i)) (λ i. h (adram i)) (h dcramAt) (h cgramAt) (h adramAt) (h column) (h port) (h duty) (h digits) (h lights) (h position))
+returns c = rw (c .before .before .before .before .before .before .before .command .given .1) (let h = c .at .ensures in every _ (λ i k. h (dcram i k)) (λ i k. h (cgram i k)) (λ i k. h (adram i k)) (h dcramAt) (h cgramAt) (h adramAt) (h column) (λ k. h (port k)) (h duty) (h digits) (h lights) (h position))
 
 returns-2 : tie.Need-returns-2
-returns-2 c = rw (c .before .before .before .before .before .before .before .command2 .given .1) (let h = c .at2 .ensures in every _ (λ i. h (dcram i)) (λ i. h (cgram i)) (λ i. h (adram i)) (h dcramAt) (h cgramAt) (h adramAt) (h column) (h port) (h duty) (h digits) (h lights) (h position))
+returns-2 c = rw (c .before .before .before .before .before .before .before .command2 .given .1) (let h = c .at2 .ensures in every _ (λ i k. h (dcram i k)) (λ i k. h (cgram i k)) (λ i k. h (adram i k)) (h dcramAt) (h cgramAt) (h adramAt) (h column) (λ k. h (port k)) (h duty) (h digits) (h lights) (h position))
 
 returns-3 : tie.Need-returns-3
-returns-3 c = rw (c .before .before .before .before .before .before .before .command3 .given .1) (let h = c .at3 .ensures in every _ (λ i. h (dcram i)) (λ i. h (cgram i)) (λ i. h (adram i)) (h dcramAt) (h cgramAt) (h adramAt) (h column) (h port) (h duty) (h digits) (h lights) (h position))
+returns-3 c = rw (c .before .before .before .before .before .before .before .command3 .given .1) (let h = c .at3 .ensures in every _ (λ i k. h (dcram i k)) (λ i k. h (cgram i k)) (λ i k. h (adram i k)) (h dcramAt) (h cgramAt) (h adramAt) (h column) (λ k. h (port k)) (h duty) (h digits) (h lights) (h position))
 
 returns-4 : tie.Need-returns-4
-returns-4 c = rw (c .before .before .command4 .given .1) (let h = c .at4 .ensures in every _ (λ i. h (dcram i)) (λ i. h (cgram i)) (λ i. h (adram i)) (h dcramAt) (h cgramAt) (h adramAt) (h column) (h port) (h duty) (h digits) (h lights) (h position))
+unfolding setBits
+returns-4 c =
+    let a = c .before .before .before .before .before .before .args in
+    let h = c .at4 .ensures in
+    rw (c .before .before .before .before .command4 .given .1)
+    (every _ (λ i k. h (dcram i k)) (λ i k. h (cgram i k)) (λ i k. h (adram i k)) (h dcramAt) (h cgramAt) (h adramAt) (h column)
+    (λ k. h (port k) ∙ port-set (a .chip) (then Ignoring) _ _ k refl refl) (h duty) (h digits) (h lights) (h position))
 
 returns-5 : tie.Need-returns-5
-returns-5 c = rw (c .before .before .command5 .given .1) (let h = c .at5 .ensures in every _ (λ i. h (dcram i)) (λ i. h (cgram i)) (λ i. h (adram i)) (h dcramAt) (h cgramAt) (h adramAt) (h column) (h port) (h duty) (h digits) (h lights) (h position))
+returns-5 c = rw (c .before .before .command5 .given .1) (let h = c .at5 .ensures in every _ (λ i k. h (dcram i k)) (λ i k. h (cgram i k)) (λ i k. h (adram i k)) (h dcramAt) (h cgramAt) (h adramAt) (h column) (λ k. h (port k)) (h duty) (h digits) (h lights) (h position))
 
 returns-6 : tie.Need-returns-6
-returns-6 c = rw (c .before .before .command6 .given .1) (let h = c .at6 .ensures in every _ (λ i. h (dcram i)) (λ i. h (cgram i)) (λ i. h (adram i)) (h dcramAt) (h cgramAt) (h adramAt) (h column) (h port) (h duty) (h digits) (h lights) (h position))
+returns-6 c = rw (c .before .before .command6 .given .1) (let h = c .at6 .ensures in every _ (λ i k. h (dcram i k)) (λ i k. h (cgram i k)) (λ i k. h (adram i k)) (h dcramAt) (h cgramAt) (h adramAt) (h column) (λ k. h (port k)) (h duty) (h digits) (h lights) (h position))
 
 returns-7 : tie.Need-returns-7
-returns-7 c = rw (c .before .before .before .before .before .before .before .before .command7 .given .1) (let h = c .at7 .ensures in every _ (λ i. h (dcram i)) (λ i. h (cgram i)) (λ i. h (adram i)) (h dcramAt) (h cgramAt) (h adramAt) (h column) (h port) (h duty) (h digits) (h lights) (h position))
+returns-7 c = rw (c .before .before .before .before .before .before .before .before .command7 .given .1) (let h = c .at7 .ensures in every _ (λ i k. h (dcram i k)) (λ i k. h (cgram i k)) (λ i k. h (adram i k)) (h dcramAt) (h cgramAt) (h adramAt) (h column) (λ k. h (port k)) (h duty) (h digits) (h lights) (h position))
 
 returns-8 : tie.Need-returns-8
 returns-8 c = rw (c .before .enum-told .given .1) (c .at8 .ensures)

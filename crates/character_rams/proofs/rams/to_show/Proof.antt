@@ -2,8 +2,8 @@
 -- Assumes nothing.
 use native.Mathlib.Omega.{arith}
 use mathlib.Core.Path.{refl}
-use Rattle.character.specs.Laws.{every}
-use Rattle.character.specs.Laws.{dcram-stored}
+use Rattle.rules.specs.Change.{setBits}
+use Rattle.character.specs.Laws.{every, dcram-stored}
 use Prim.Native.Nat.{_<_, _%_}
 use lib.ListN.{length}
 use borrow.Author.Needs.{needs}
@@ -17,11 +17,12 @@ add-t8 : tie.Need-add-t8
 add-t8 c = search needs
 
 returns : tie.Need-returns
+unfolding setBits
 returns c =
     let a = c .before .before .before .before .before .before .before .args in
     let n = c .before .before .before .before .sixteen-with .ensures .1 in
     let h : a .chip .«dcram_at» .0 % 16 < length (a .chip .dcram) = omega arith in
-    every _ (λ i. dcram-stored (a .chip) _ (a .chip .«dcram_at» .0 % 16) (a .byte) i (c .before .before .before .before .sixteen-with .ensures .0) h) (λ i. refl) (λ i. refl) refl refl refl refl refl refl refl refl refl
+    every _ (λ i k. dcram-stored (a .chip) _ (a .chip .«dcram_at» .0 % 16) (a .byte) i k (c .before .before .before .before .sixteen-with .ensures .0) h) (λ i k. refl) (λ i k. refl) refl refl refl refl (λ k. refl) refl refl refl refl
 
 pub to-show-spec : {M : Type 1} → statement M
 to-show-spec = tie.close (tie.spec sixteen-with-requires add-t8 returns)

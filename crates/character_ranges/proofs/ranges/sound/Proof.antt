@@ -1,7 +1,8 @@
 -- `character_ranges::ranges::sound` meets its contract: the tests together are every fact in range.
 -- Assumes nothing.
 use Rattle.character_ranges.specs.Ranges.{sound-whole, sound-parts}
-use Rattle.standing.specs.View.{both-tell, tells-as}
+use Rattle.lamps.specs.Lamp.{wide8, wide7, wide2}
+use Rattle.rules.specs.Tests.{both-tell, tells-as}
 use borrow.Author.Needs.{needs}
 use Rattle.character_ranges.proofs.ranges.sound.Statement.{statement}
 use Rattle.character_ranges.proofs.ranges.sound.Tie as tie
@@ -36,9 +37,9 @@ returns c = let a = c .before .before .before .before .before .before .before .b
     (both-tell (c .both-hold3 .ensures)
     (both-tell (c .before .before .both-hold2 .ensures)
     (both-tell (c .before .before .before .before .both-hold .ensures)
-    (d .0)
-    (x .0))
-    (g .0))
+    (d .0 8 wide8)
+    (x .0 2 wide2))
+    (g .0 7 wide7))
     (c .before .singles-sound .ensures))
 
 pub sound-spec : {M : Type 1} → statement M

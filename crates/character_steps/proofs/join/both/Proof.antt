@@ -21,8 +21,8 @@ both-settings-requires c κs = search needs
 
 returns : tie.Need-returns
 returns c = let s = c .both-settings .ensures in
-    λ m. every _ (λ i. sym (join-itself (m .dcram i))) (λ i. sym (join-itself (m .cgram i))) (λ i. sym (join-itself (m .adram i)))
-    (c .before .before .before .both-pointing .ensures) (c .before .before .both-pointing2 .ensures) (c .before .both-pointing3 .ensures) (s .column) (s .port) (s .duty) (s .digits) (s .lights) (s .position)
+    λ m. every _ (λ i k. sym (join-itself (m .dcram i k))) (λ i k. sym (join-itself (m .cgram i k))) (λ i k. sym (join-itself (m .adram i k)))
+    (c .before .before .before .both-pointing .ensures) (c .before .before .both-pointing2 .ensures) (c .before .both-pointing3 .ensures) (s .column) (λ k. s .port 2 k) (s .duty) (s .digits) (s .lights) (s .position)
 
 pub both-spec : {M : Type 1} → statement M
 both-spec =

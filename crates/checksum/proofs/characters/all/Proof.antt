@@ -24,6 +24,9 @@ address-requires-3 c κs = search needs
 fact-requires : tie.Need-fact-requires
 fact-requires c κs = search needs
 
+take-requires : tie.Need-take-requires
+take-requires c κs = search needs
+
 fact-requires-2 : tie.Need-fact-requires-2
 fact-requires-2 c κs = search needs
 
@@ -36,17 +39,14 @@ fact-requires-4 c κs = search needs
 fact-requires-5 : tie.Need-fact-requires-5
 fact-requires-5 c κs = search needs
 
-fact-requires-6 : tie.Need-fact-requires-6
-fact-requires-6 c κs = search needs
-
 returns : tie.Need-returns
 returns c =
     rw (
-      c .fact6 .ensures,
-      c .before .fact5 .ensures,
-      c .before .before .fact4 .ensures,
-      c .before .before .before .fact3 .ensures,
-      c .before .before .before .before .fact2 .ensures,
+      c .fact5 .ensures,
+      c .before .fact4 .ensures,
+      c .before .before .fact3 .ensures,
+      c .before .before .before .fact2 .ensures,
+      c .before .before .before .before .take .ensures,
       c .before .before .before .before .before .fact .ensures,
       c .before .before .before .before .before .before .address3 .ensures,
       c .before .before .before .before .before .before .before .address2 .ensures,
@@ -67,9 +67,9 @@ all-spec =
     address-requires-2
     address-requires-3
     fact-requires
+    take-requires
     fact-requires-2
     fact-requires-3
     fact-requires-4
     fact-requires-5
-    fact-requires-6
     returns)

@@ -27,8 +27,8 @@ fact-requires-4 c κs = search needs
 fact-requires-5 : tie.Need-fact-requires-5
 fact-requires-5 c κs = search needs
 
-fact-requires-6 : tie.Need-fact-requires-6
-fact-requires-6 c κs = search needs
+take-requires : tie.Need-take-requires
+take-requires c κs = search needs
 
 keys-requires : tie.Need-keys-requires
 keys-requires c κs = search needs
@@ -36,20 +36,20 @@ keys-requires c κs = search needs
 switches-in-requires : tie.Need-switches-in-requires
 switches-in-requires c κs = search needs
 
+fact-requires-6 : tie.Need-fact-requires-6
+fact-requires-6 c κs = search needs
+
 fact-requires-7 : tie.Need-fact-requires-7
 fact-requires-7 c κs = search needs
-
-fact-requires-8 : tie.Need-fact-requires-8
-fact-requires-8 c κs = search needs
 
 returns : tie.Need-returns
 returns c =
     rw (
-      c .fact8 .ensures,
-      c .before .fact7 .ensures,
+      c .fact7 .ensures,
+      c .before .fact6 .ensures,
       c .before .before .switches-in .ensures,
       c .before .before .before .keys .ensures,
-      c .before .before .before .before .before .fact6 .ensures,
+      c .before .before .before .before .before .take .ensures,
       c .before .before .before .before .before .before .fact5 .ensures,
       c .before .before .before .before .before .before .before .fact4 .ensures,
       c .before .before .before .before .before .before .before .before .fact3 .ensures,
@@ -72,9 +72,9 @@ all-spec =
     fact-requires-3
     fact-requires-4
     fact-requires-5
-    fact-requires-6
+    take-requires
     keys-requires
     switches-in-requires
+    fact-requires-6
     fact-requires-7
-    fact-requires-8
     returns)

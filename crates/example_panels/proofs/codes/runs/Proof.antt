@@ -9,10 +9,10 @@ use Rattle.example_panels.proofs.codes.run.Reads as run-reads
 use Rattle.example_text.proofs.text.Reads as text-reads
 
 abbrev Inv-loop : tie.InvT-loop
-Inv-loop name codes count from₀ i₀ from i = i ≤ count
+Inv-loop name full codes count from₀ i₀ from i = i ≤ count
 
 abbrev μ-loop : tie.MeasureT-loop
-μ-loop name codes count from₀ i₀ from i = count - i
+μ-loop name full codes count from₀ i₀ from i = count - i
 
 text-requires : tie.Need-text-requires Inv-loop μ-loop
 text-requires c κs = search needs

@@ -2,7 +2,7 @@
 -- Assumes nothing.
 use mathlib.Core.Bool.{true≢false}
 use mathlib.Core.Path.{sym, _∙_}
-use Rattle.standing.specs.View.{tells-as}
+use Rattle.rules.specs.Tests.{tells-as}
 use Rattle.account_fair.specs.Laws.{not-so}
 use borrow.Author.Needs.{needs}
 use Rattle.feed.proofs.tests.is_good.Statement.{statement}

@@ -3,11 +3,9 @@
 use Prim.Native.Nat.{ℕ, _+_, _-_, _≤_}
 use native.Mathlib.Omega.{arith}
 use mathlib.Core.Path.{_≡_, refl, sym, subst}
-use lib.ListN.{getD}
 use borrow.Author.Needs.{needs}
 use Rattle.standing.specs.declared.standing.Standing.the-variants.{Known, Unknown}
-use Rattle.standing.specs.View.{byteCoded}
-use Rattle.field_told.specs.Cells.{Read, no-cell, cell-is, read-none, read-more, read-all}
+use Rattle.field_told.specs.Cells.{byteAt, Read, no-cell, cell-is, read-none, read-more, read-all}
 use Rattle.field_told.proofs.cells.five_at.Statement.{statement}
 use Rattle.field_told.proofs.cells.five_at.Tie as tie
 
@@ -48,7 +46,7 @@ returns : tie.Need-returns Inv-loop μ-loop
 returns c =
     let a = c .before .before .before .before .before .before .args in
     let n = c .before .before .before .before .before .loop .i in
-    λ rest. sym (no-cell (λ (i : ℕ). byteCoded (getD (a .t1) i 256)) (a .start .0) rest n (omega arith) (cell-is (a .t1) (a .start .0 + n) (c .before .before .byte-in .result) Unknown (omega arith) (c .before .before .byte-in .ensures) (c .enum-told .given .1)))
+    λ rest. sym (no-cell (byteAt (a .t1)) (a .start .0) rest n (omega arith) (cell-is (a .t1) (a .start .0 + n) (c .before .before .byte-in .result) Unknown (c .before .before .byte-in .ensures) (c .enum-told .given .1)))
 
 add-i : tie.Need-add-i Inv-loop μ-loop
 add-i c = search needs
@@ -60,7 +58,7 @@ loop-again : tie.Need-loop-again Inv-loop μ-loop
 loop-again c =
     let a = c .before .before .before .before .before .before .before .args in
     let l = c .before .before .before .before .before .before .loop in
-    (omega arith, read-more (a .t1) (a .start .0) (l .i) (l .bytes) (c .before .cell .given .0 .0) (omega arith) (l .inv .1) (cell-is (a .t1) (a .start .0 + l .i) (c .before .before .before .byte-in .result) (Known (c .before .cell .given .0 .0)) (omega arith) (c .before .before .before .byte-in .ensures) (c .before .cell .given .1)))
+    (omega arith, read-more (a .t1) (a .start .0) (l .i) (l .bytes) (c .before .cell .given .0 .0) (omega arith) (l .inv .1) (cell-is (a .t1) (a .start .0 + l .i) (c .before .before .before .byte-in .result) (Known (c .before .cell .given .0 .0)) (c .before .before .before .byte-in .ensures) (c .before .cell .given .1)))
 
 array-read-t19 : tie.Need-array-read-t19 Inv-loop μ-loop
 array-read-t19 c = search needs

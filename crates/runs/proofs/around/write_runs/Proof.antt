@@ -7,7 +7,7 @@ use lib.ListN.{length}
 use lib.Seq.{length-sets}
 use Rattle.runs.specs.Runs.{wanted}
 use Rattle.runs.specs.Walk.{behind-inside}
-use Rattle.runs.specs.Survey.{differ, read-differs}
+use Rattle.runs.specs.Survey.{differ}
 use Rattle.runs.specs.Front.{front-is}
 use Rattle.runs.specs.Written.{SoFar, begun, room, more, room-to-rise, ended}
 use borrow.Author.Needs.{needs}
@@ -51,7 +51,7 @@ write-cell-requires c κs =
     let p = c .before .before .before .before .before .before .before .before .before .before .pre in
     let l = c .before .before .before .before .before .before .loop in
     let d = differ (a .codes .now) (a .wanted .now) in
-    let e : c .before .before .differs .result ≡ d (l .i) = read-differs (a .codes .now) (a .wanted .now) (l .i) _ (omega (arith, l .inv .0, p .2)) (c .before .before .differs .ensures) in
+    let e : c .before .before .differs .result ≡ d (l .i) = c .before .before .differs .ensures in
     (omega (arith, l .inv .0, p .1), rw e (room (a .n) d (wanted (a .wanted .now)) (a .out .now) (a .at) (l .out) (l .to) (l .low) (l .i) (l .left) (l .inv .2) (c .before .before .before .before .before .loop-test .taken) (p .5)))
 
 next-requires : tie.Need-next-requires Inv-loop μ-loop
@@ -69,8 +69,7 @@ loop-again c =
     let l = c .before .before .before .before .before .before .before .before .before .before .loop in
     let d = differ (a .codes .now) (a .wanted .now) in
     let w = c .before .before .before .write-cell .ensures in
-    let e : c .before .before .before .before .before .before .differs .result ≡ d (l .i) =
-    read-differs (a .codes .now) (a .wanted .now) (l .i) _ (omega (arith, l .inv .0, c .before .before .before .before .before .before .before .before .before .before .before .before .before .before .pre .2)) (c .before .before .before .before .before .before .differs .ensures) in
+    let e : c .before .before .before .before .before .before .differs .result ≡ d (l .i) = c .before .before .before .before .before .before .differs .ensures in
     rw (c .next .ensures, e) (
       behind-inside (a .n) (l .i) (l .inv .0),
       omega (arith, l .inv .1),

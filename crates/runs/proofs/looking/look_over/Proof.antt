@@ -5,7 +5,7 @@ use native.Mathlib.Omega.{arith}
 use mathlib.Core.Path.{_≡_, ap, _∙_}
 use mathlib.Core.Bool.{Bool}
 use Rattle.rules.specs.Choice.{whether}
-use Rattle.runs.specs.Survey.{differ, read-differs, Passed, none-passed, one-passed, passed-most, surveyed}
+use Rattle.runs.specs.Survey.{differ, Passed, none-passed, one-passed, passed-most, surveyed}
 use borrow.Author.Needs.{needs}
 use Rattle.runs.proofs.looking.look_over.Statement.{statement}
 use Rattle.runs.proofs.looking.look_over.Tie as tie
@@ -37,8 +37,7 @@ differs-requires c κs = tt
 loop-holds : tie.Need-loop-holds Inv-loop μ-loop
 loop-holds c =
     let a = c .before .before .before .before .before .args in
-    let h = c .before .before .before .before .before .pre in
-    (omega arith, none-passed (a .n) (differ (a .codes .now) (a .wanted .now)) _ (read-differs (a .codes .now) (a .wanted .now) (a .n - 1) _ (omega (arith, h .0, h .2)) (c .differs .ensures)))
+    (omega arith, none-passed (a .n) (differ (a .codes .now) (a .wanted .now)) _ (c .differs .ensures))
 
 mul-differs-2 : tie.Need-mul-differs-2 Inv-loop μ-loop
 mul-differs-2 c = search needs
@@ -89,7 +88,7 @@ loop-again c =
     let t = c .before .before .before .before .before .before .before .before .loop-test .taken in (
       omega arith,
       one-passed (a .n) (differ (a .codes .now) (a .wanted .now)) (l .i) (l .cells) (l .runs) (l .lead) (l .last) _ _ _ _ (l .inv .1)
-          (read-differs (a .codes .now) (a .wanted .now) (l .i) _ (omega (arith, c .before .before .before .before .before .before .before .before .before .before .before .before .before .before .before .pre .2)) (c .before .before .before .before .before .differs2 .ensures))
+          (c .before .before .before .before .before .differs2 .ensures)
           (c .before .before .before .before .counted .ensures) (c .before .before .counted2 .ensures ∙ ap (λ (t : Bool). l .runs + whether t 1 0) (c .before .before .before .begins .ensures))
           (c .counted3 .ensures ∙ ap (λ (t : Bool). l .lead + whether t 1 0) (c .before .leads .ensures)),
     )

@@ -50,16 +50,16 @@ returns-2 : tie.Need-returns-2
 returns-2 c = rw (c .before .enum-told .given .1) (c .in-test .ensures)
 
 returns-3 : tie.Need-returns-3
-returns-3 c = rw (c .before .before .before .before .command2 .given .1) (let h = c .at .ensures in every _ (λ i. h (cell i)) (h address) (h dataMode) (h stepping) (h mode) (h dimming) (h display) (h led) (λ i. h (key i)) (h switches) (h readCount) (h position))
+returns-3 c = rw (c .before .before .before .before .command2 .given .1) (let h = c .at .ensures in every _ (λ i k. h (cell i k)) (h address) (h dataMode) (h stepping) (h mode) (h dimming) (h display) (λ k. h (led k)) (λ i. h (key i)) (h switches) (h readCount) (h position))
 
 returns-4 : tie.Need-returns-4
 returns-4 c = rw (c .before .before .command3 .given .1) (c .set-to-any .ensures)
 
 returns-5 : tie.Need-returns-5
-returns-5 c = rw (c .before .before .before .before .command4 .given .1) (let h = c .at2 .ensures in every _ (λ i. h (cell i)) (h address) (h dataMode) (h stepping) (h mode) (h dimming) (h display) (h led) (λ i. h (key i)) (h switches) (h readCount) (h position))
+returns-5 c = rw (c .before .before .before .before .command4 .given .1) (let h = c .at2 .ensures in every _ (λ i k. h (cell i k)) (h address) (h dataMode) (h stepping) (h mode) (h dimming) (h display) (λ k. h (led k)) (λ i. h (key i)) (h switches) (h readCount) (h position))
 
 returns-6 : tie.Need-returns-6
-returns-6 c = rw (c .before .before .before .before .command5 .given .1) (let h = c .at3 .ensures in every _ (λ i. h (cell i)) (h address) (h dataMode) (h stepping) (h mode) (h dimming) (h display) (h led) (λ i. h (key i)) (h switches) (h readCount) (h position))
+returns-6 c = rw (c .before .before .before .before .command5 .given .1) (let h = c .at3 .ensures in every _ (λ i k. h (cell i k)) (h address) (h dataMode) (h stepping) (h mode) (h dimming) (h display) (λ k. h (led k)) (λ i. h (key i)) (h switches) (h readCount) (h position))
 
 pub commanded-spec : {M : Type 1} → statement M
 commanded-spec =

@@ -6,7 +6,7 @@ use Rattle.segment_commanded.proofs.commands.set_to_any.Statement.{stat
 use Rattle.segment_commanded.proofs.commands.set_to_any.Tie as tie
 
 returns : tie.Need-returns
-returns c = every _ (λ i. refl) refl refl refl refl refl refl refl (λ i. refl) refl refl refl
+returns c = every _ (λ i k. refl) refl refl refl refl refl refl (λ k. refl) (λ i. refl) refl refl refl
 
 pub set-to-any-spec : {M : Type 1} → statement M
 set-to-any-spec = tie.close (tie.spec returns)

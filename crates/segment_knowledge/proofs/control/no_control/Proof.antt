@@ -2,13 +2,14 @@
 -- Assumes nothing.
 use mathlib.Core.Path.{refl, ap}
 use Rattle.segment.specs.Laws.{every}
-use Rattle.standing.specs.View.{coded}
-use Rattle.standing.specs.Codes.{getD-same}
+use Rattle.key_codes.specs.View.{coded}
+use Rattle.rules.specs.Unique.{getD-same}
+use Rattle.lamps.specs.Row.{none-shown}
 use Rattle.segment_knowledge.proofs.control.no_control.Statement.{statement}
 use Rattle.segment_knowledge.proofs.control.no_control.Tie as tie
 
 returns : tie.Need-returns
-returns c = every _ (λ i. refl) refl refl refl refl refl refl refl (λ i. ap coded (getD-same 4 i 256)) refl refl refl
+returns c = every _ (λ i k. refl) refl refl refl refl refl refl (λ k. none-shown 4 k) (λ i. ap coded (getD-same 4 i 256)) refl refl refl
 
 pub no-control-spec : {M : Type 1} → statement M
 no-control-spec = tie.close (tie.spec returns)

@@ -1,11 +1,9 @@
 -- `segment_knowledge::knowledge::nothing_known` meets its contract: no cell is known, and nothing beside them.
 -- Assumes nothing.
-use mathlib.Core.Path.{ap}
 use Rattle.segment.specs.Fact.{address, dataMode, stepping, mode, dimming, display, led, key, switches, readCount, position}
 use borrow.Author.Needs.{needs}
 use Rattle.segment.specs.Laws.{every}
-use Rattle.standing.specs.View.{coded}
-use Rattle.standing.specs.Codes.{getD-same}
+use Rattle.lamps.specs.Row.{none-held}
 use Rattle.segment_knowledge.proofs.knowledge.nothing_known.Statement.{statement}
 use Rattle.segment_knowledge.proofs.knowledge.nothing_known.Tie as tie
 
@@ -14,7 +12,7 @@ no-control-requires c κs = search needs
 
 returns : tie.Need-returns
 returns c = let n = c .no-control .ensures in
-    every _ (λ i. ap coded (getD-same 36 i 256)) (n address) (n dataMode) (n stepping) (n mode) (n dimming) (n display) (n led) (λ i. n (key i)) (n switches) (n readCount) (n position)
+    every _ (none-held 8 36) (n address) (n dataMode) (n stepping) (n mode) (n dimming) (n display) (λ k. n (led k)) (λ i. n (key i)) (n switches) (n readCount) (n position)
 
 pub nothing-known-spec : {M : Type 1} → statement M
 nothing-known-spec = tie.close (tie.spec no-control-requires returns)

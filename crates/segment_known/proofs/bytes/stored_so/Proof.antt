@@ -11,6 +11,7 @@ use Rattle.segment_steps.specs.StepLaws.{as-steps}
 use Rattle.segment_known.specs.Ways.{other-step}
 use Rattle.changes.specs.Together.{put-told}
 use Prim.Native.Nat.{_<_}
+use Rattle.rules.specs.Change.{setBits}
 use borrow.Author.Needs.{needs}
 use Rattle.segment_known.proofs.bytes.stored_so.Statement.{statement}
 use Rattle.segment_known.proofs.bytes.stored_so.Tie as tie
@@ -22,20 +23,22 @@ known-pointing-requires : tie.Need-known-pointing-requires
 known-pointing-requires c κs = search needs
 
 returns : tie.Need-returns
+unfolding setBits
 returns c = let a = c .before .before .before .before .args in
     let i : a .cell .0 < 36 = omega (arith, c .before .before .before .before .pre, room (a .family) .0) in (
       record {
-        knows = λ cells. rw (c .before .before .before .match .keys1) (every _ (λ j. put-told same? cell cells-apart (cview cells (a .c)) (a .cell .0) (a .byte) j) (c .before .known-pointing .ensures ∙ ap (λ p. known (pointer p)) (c .before .before .behind .ensures)) refl refl refl refl refl refl (λ j. refl) refl refl refl);
+        knows = λ cells. rw (c .before .before .before .match .keys1) (every _ (λ j k. put-told same? cell cells-apart (cview cells (a .c)) 8 (a .cell .0) (a .byte) j k) (c .before .known-pointing .ensures ∙ ap (λ p. known (pointer p)) (c .before .before .behind .ensures)) refl refl refl refl refl (λ k. refl) (λ j. refl) refl refl refl);
         inside = i;
       },
       refl,
     )
 
 returns-2 : tie.Need-returns-2
+unfolding setBits
 returns-2 c = let a = c .before .args in
     let i : a .cell .0 < 36 = omega (arith, c .before .pre, room (a .family) .0) in (
       as-steps (other-step _ _ _ (c .match .rest .1)) (record {
-        knows = λ cells. every _ (λ j. put-told same? cell cells-apart (cview cells (a .c)) (a .cell .0) (a .byte) j) refl refl refl refl refl refl refl (λ j. refl) refl refl refl;
+        knows = λ cells. every _ (λ j k. put-told same? cell cells-apart (cview cells (a .c)) 8 (a .cell .0) (a .byte) j k) refl refl refl refl refl refl (λ k. refl) (λ j. refl) refl refl refl;
         inside = i;
       }),
       refl,

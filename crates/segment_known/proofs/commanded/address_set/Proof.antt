@@ -10,7 +10,7 @@ known-pointing-requires : tie.Need-known-pointing-requires
 known-pointing-requires c κs = search needs
 
 returns : tie.Need-returns
-returns c = λ cells. every _ (λ i. refl) (c .before .known-pointing .ensures) refl refl refl refl refl refl (λ i. refl) refl refl refl
+returns c = λ cells. every _ (λ i k. refl) (c .before .known-pointing .ensures) refl refl refl refl refl (λ k. refl) (λ i. refl) refl refl refl
 
 pub address-set-spec : {M : Type 1} → statement M
 address-set-spec = tie.close (tie.spec known-pointing-requires returns)

@@ -11,7 +11,7 @@ display-number-requires : tie.Need-display-number-requires
 display-number-requires c κs = search needs
 
 returns : tie.Need-returns
-returns c = λ cells. every _ (λ i. refl) refl refl refl refl refl (ap known (c .before .display-number .ensures)) refl (λ i. refl) refl refl refl
+returns c = λ cells. every _ (λ i k. refl) refl refl refl refl refl (ap known (c .before .display-number .ensures)) (λ k. refl) (λ i. refl) refl refl refl
 
 pub display-set-spec : {M : Type 1} → statement M
 display-set-spec = tie.close (tie.spec display-number-requires returns)

@@ -83,7 +83,7 @@ returns c = let a = c .before .before .before .before .before .before .args in
 returns-2 : tie.Need-returns-2
 returns-2 c = let a = c .before .before .before .before .before .args in
     let s = sizes (a .family) in (
-      forgotten-steps (c .forgotten .ensures) (λ cells. as-rule (cview cells) (cview (λ i. unknown)) same? (range s) _ _ (a .c) _ (ap commanded (sym (c .before .before .before .before .command-of .ensures) ∙ c .before .before .enum-told .given .1)) (c .before .in-test .ensures cells)),
+      forgotten-steps (c .forgotten .ensures) (λ cells. as-rule (cview cells) (cview (λ i k. unknown)) same? (range s) _ _ (a .c) _ (ap commanded (sym (c .before .before .before .before .command-of .ensures) ∙ c .before .before .enum-told .given .1)) (c .before .in-test .ensures cells)),
       subst⁻¹ (λ (x : Step). Plain (x .change)) (c .forgotten .ensures) tt,
     )
 

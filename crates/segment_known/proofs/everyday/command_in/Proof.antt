@@ -5,6 +5,7 @@ use mathlib.Core.Path.{subst⁻¹}
 use Rattle.changes.specs.Change.{Inside}
 use Rattle.terms.specs.declared.Event.the-variants.{ByteIn}
 use Rattle.segment.specs.Fact.{position}
+use Rattle.lamps.specs.Lamp.{wide8}
 use Rattle.segment.specs.Family.{sizes}
 use Rattle.segment.specs.Move.{byteIn}
 use Rattle.segment_known.specs.Moved.{step-done}
@@ -26,7 +27,7 @@ returns : tie.Need-returns
 returns c = let a = c .before .before .before .before .before .before .before .args in
     let s = sizes (a .family) in
     step-done (a .family) (record { cells = a .cells .now; control = a .c }) (ByteIn (a .byte)) (c .before .before .before .before .before .first-in .result) (c .before .before .before .apply .last .0)
-    (step-known s position (byteIn s (a .byte)) (a .c) 1 (λ cells. c .before .before .before .before .before .before .before .pre .0) (c .before .before .before .before .before .first-in .ensures .0)) (c .before .before .before .apply .ensures)
+    (step-known s position (byteIn s (a .byte)) (a .c) 1 (λ cells. c .before .before .before .before .before .before .before .pre .0) (c .before .before .before .before .before .first-in .ensures .0)) (c .before .before .before .apply .ensures 8 wide8)
 
 pub command-in-spec : {M : Type 1} → statement M
 command-in-spec = tie.close (tie.spec first-in-requires apply-requires same-length returns)

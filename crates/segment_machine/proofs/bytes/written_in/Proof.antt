@@ -1,12 +1,13 @@
--- `segment_machine::bytes::written_in` meets its contract: each arm knows its data mode; the LED arm changes the one fact, and the others' callees do what the rule says.
+-- `segment_machine::bytes::written_in` meets its contract: each arm knows its data mode; in the LED arm each bit of the LED is that of the byte, as `lit` says, and the others' callees do what the rule says.
 -- Assumes nothing.
 use mathlib.Core.Path.{ap}
 use Rattle.rules.specs.Laws.{by-value}
+use Rattle.rules.specs.Change.{setBits}
 use Rattle.segment.specs.Family.{sizes}
 use Rattle.segment.specs.Value.{data-mode}
 use Rattle.segment.specs.Move.{written}
 use mathlib.Core.Path.{refl}
-use Rattle.segment.specs.Laws.{every}
+use Rattle.segment.specs.Laws.{every, led-lit}
 use borrow.Author.Needs.{needs}
 use Rattle.segment_machine.proofs.bytes.written_in.Statement.{statement}
 use Rattle.segment_machine.proofs.bytes.written_in.Tie as tie
@@ -19,6 +20,9 @@ stored-by-requires c κs = search needs
 
 enum-told-2 : tie.Need-enum-told-2
 enum-told-2 c = search needs
+
+lit-requires : tie.Need-lit-requires
+lit-requires c κs = search needs
 
 enum-told-3 : tie.Need-enum-told-3
 enum-told-3 c = search needs
@@ -36,7 +40,11 @@ returns : tie.Need-returns
 returns c = by-value (written (sizes (c .before .before .before .args .family)) (c .before .before .before .args .byte)) _ _ _ _ _ (ap data-mode (c .before .enum-told .given .1)) (c .stored-by .ensures)
 
 returns-2 : tie.Need-returns-2
-returns-2 c = by-value (written (sizes (c .before .before .before .before .args .family)) (c .before .before .before .before .args .byte)) _ _ _ _ _ (ap data-mode (c .before .before .enum-told2 .given .1)) (every _ (λ i. refl) refl refl refl refl refl refl refl (λ i. refl) refl refl refl)
+unfolding setBits
+returns-2 c =
+    let a = c .before .before .before .before .before .args in
+    by-value (written (sizes (a .family)) (a .byte)) _ _ _ _ _ (ap data-mode (c .before .before .before .enum-told2 .given .1))
+    (every _ (λ i k. refl) refl refl refl refl refl refl (λ k. led-lit (a .chip) _ (a .byte) k (c .before .before .lit .ensures)) (λ i. refl) refl refl refl)
 
 returns-3 : tie.Need-returns-3
 returns-3 c = by-value (written (sizes (c .before .before .before .args .family)) (c .before .before .before .args .byte)) _ _ _ _ _ (ap data-mode (c .before .enum-told3 .given .1)) (c .unchanged .ensures)
@@ -51,6 +59,7 @@ written-in-spec =
     enum-told
     stored-by-requires
     enum-told-2
+    lit-requires
     enum-told-3
     unchanged-requires
     enum-told-4

@@ -1,6 +1,6 @@
 -- `segment_ranges::ranges::singles_sound` meets its contract: the tests together.
 -- Assumes nothing.
-use Rattle.standing.specs.View.{both-tell}
+use Rattle.rules.specs.Tests.{both-tell}
 use borrow.Author.Needs.{needs}
 use Rattle.segment_ranges.proofs.ranges.singles_sound.Statement.{statement}
 use Rattle.segment_ranges.proofs.ranges.singles_sound.Tie as tie

@@ -4,7 +4,7 @@ use Prim.Native.Nat.{_≤_}
 use Rattle.segment.specs.Laws.{room}
 use Rattle.segment.specs.Family.{sizes}
 use Rattle.segment_ranges.specs.Ranges.{sound-whole, sound-parts}
-use Rattle.standing.specs.View.{both-tell, tells-as}
+use Rattle.rules.specs.Tests.{both-tell, tells-as}
 use borrow.Author.Needs.{needs}
 use Rattle.segment_ranges.proofs.ranges.sound.Statement.{statement}
 use Rattle.segment_ranges.proofs.ranges.sound.Tie as tie
@@ -33,10 +33,10 @@ returns : tie.Need-returns
 returns c = let a = c .before .before .before .before .before .before .before .before .before .args in
     let cells = rw (c .before .before .before .before .before .before .before .before .sizes .ensures) at (c .before .before .before .before .cells-sound .ensures) in
     let keys = rw (c .before .before .before .before .before .before .before .before .sizes .ensures) at (c .before .before .before .keys-sound .ensures) in
-    tells-as (sound-whole (sizes (a .family)) (a .k) (cells .1) (keys .1)) (sound-parts (sizes (a .family)) (a .k))
+    tells-as (sound-whole (sizes (a .family)) (a .k) (keys .1)) (sound-parts (sizes (a .family)) (a .k))
     (both-tell (c .both-hold2 .ensures)
     (both-tell (c .before .before .both-hold .ensures)
-    (cells .0)
+    cells
     (keys .0))
     (c .before .singles-sound .ensures))
 

@@ -22,7 +22,7 @@ with-data-requires c κs = search needs
 
 keys-sent-requires : tie.Need-keys-sent-requires
 keys-sent-requires c κs = let a = c .before .args in
-    learns-sound bare same? (range (sizes (a .family))) (a .c) _ dataMode 2 (c .with-data .ensures (λ i. unknown)) (mode-room (a .family)) (c .before .pre .0)
+    learns-sound bare same? (range (sizes (a .family))) (a .c) _ dataMode 2 (c .with-data .ensures (λ i k. unknown)) (mode-room (a .family)) (c .before .pre .0)
 
 both-sent-requires : tie.Need-both-sent-requires
 both-sent-requires c κs = search needs
@@ -35,7 +35,7 @@ with-data-requires-2 c κs = search needs
 
 switches-sent-requires : tie.Need-switches-sent-requires
 switches-sent-requires c κs = let a = c .before .before .before .before .before .before .args in
-    subst⁻¹ (Within 256) (c .with-data2 .ensures (λ i. unknown) switches) (switches-in (bare (a .c)) (subst (λ p. Sound (range (sizes p)) (bare (a .c))) (c .before .enum-told .given .1) (c .before .before .before .before .before .before .pre .0)))
+    subst⁻¹ (Within 256) (c .with-data2 .ensures (λ i k. unknown) switches) (switches-in (bare (a .c)) (subst (λ p. Sound (range (sizes p)) (bare (a .c))) (c .before .enum-told .given .1) (c .before .before .before .before .before .before .pre .0)))
 
 both-sent-requires-2 : tie.Need-both-sent-requires-2
 both-sent-requires-2 c κs = search needs

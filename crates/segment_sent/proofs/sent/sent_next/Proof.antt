@@ -32,7 +32,7 @@ at-requires c κs = search needs
 
 open-sent-requires : tie.Need-open-sent-requires
 open-sent-requires c κs = let a = c .before .before .before .args in
-    learns-sound bare same? (range (sizes (a .family))) (a .c) _ position 2 (c .at .ensures (λ i. unknown)) (omega arith) (c .before .before .before .pre)
+    learns-sound bare same? (range (sizes (a .family))) (a .c) _ position 2 (c .at .ensures (λ i k. unknown)) (omega arith) (c .before .before .before .pre)
 
 both-sent-requires : tie.Need-both-sent-requires
 both-sent-requires c κs = search needs

@@ -3,7 +3,7 @@
 use mathlib.Core.Path.{sym}
 use Rattle.knowing.specs.Join.{join-itself}
 use Rattle.segment.specs.Laws.{every}
-use Rattle.standing.specs.Codes.{joined-view}
+use Rattle.key_codes.specs.Codes.{joined-view}
 use borrow.Author.Needs.{needs}
 use Rattle.segment_steps.proofs.join.both.Statement.{statement}
 use Rattle.segment_steps.proofs.join.both.Tie as tie
@@ -29,8 +29,8 @@ both-standing-requires-3 c κs = search needs
 returns : tie.Need-returns
 returns c = let keys = c .before .before .before .before .before .both-keys .ensures in
     let s = c .before .both-settings .ensures in
-    λ cells. every _ (λ i. sym (join-itself (cells i))) (c .before .before .before .before .both-pointing .ensures) (c .before .before .before .both-standing .ensures)
-    (c .before .before .both-standing2 .ensures) (s .mode) (s .dimming) (s .display) (s .led) (λ i. joined-view _ _ _ 4 (keys .0) (keys .1 .0) (keys .1 .1) i) (s .switches) (s .count) (c .both-standing3 .ensures)
+    λ cells. every _ (λ i k. sym (join-itself (cells i k))) (c .before .before .before .before .both-pointing .ensures) (c .before .before .before .both-standing .ensures)
+    (c .before .before .both-standing2 .ensures) (s .mode) (s .dimming) (s .display) (λ k. s .led 4 k) (λ i. joined-view _ _ _ 4 (keys .0) (keys .1 .0) (keys .1 .1) i) (s .switches) (s .count) (c .both-standing3 .ensures)
 
 pub both-spec : {M : Type 1} → statement M
 both-spec =

@@ -11,15 +11,15 @@ use Rattle.text.proofs.rows.lines.Statement.{statement}
 use Rattle.text.proofs.rows.lines.Tie as tie
 
 abbrev Inv-loop : tie.InvT-loop
-Inv-loop out₀ at names width n codes to₀ i₀ out to i = (i ≤ n) × Remains out₀ at (lines (named names width) width n 0 codes) out to (linesFrom (named names width) width n codes i)
+Inv-loop out₀ at full names width n codes to₀ i₀ out to i = (i ≤ n) × Remains out₀ at (lines full (named names width) width n 0 codes) out to (linesFrom full (named names width) width n codes i)
 
 abbrev μ-loop : tie.MeasureT-loop
-μ-loop out₀ at names width n codes to₀ i₀ out to i = n - i
+μ-loop out₀ at full names width n codes to₀ i₀ out to i = n - i
 
 loop-holds : tie.Need-loop-holds Inv-loop μ-loop
 loop-holds c =
     let a = c .before .before .args in
-    (omega arith, rw (lines-all (named (a .names) (a .width)) (a .width) (a .n) (a .codes .now)) (λ r out′ w. w))
+    (omega arith, rw (lines-all (a .full) (named (a .names) (a .width)) (a .width) (a .n) (a .codes .now)) (λ r out′ w. w))
 
 line-of-requires : tie.Need-line-of-requires Inv-loop μ-loop
 line-of-requires c κs =
@@ -37,12 +37,12 @@ loop-again : tie.Need-loop-again Inv-loop μ-loop
 loop-again c =
     let a = c .before .before .before .before .before .before .before .before .args in
     let l = c .before .before .before .before .before .loop in
-    (omega arith, lines-less (named (a .names) (a .width)) (a .width) (a .n) (a .codes .now) (l .i) (c .before .before .before .before .loop-test .taken) (l .inv .1) (c .before .before .line-of .ensures))
+    (omega arith, lines-less (a .full) (named (a .names) (a .width)) (a .width) (a .n) (a .codes .now) (l .i) (c .before .before .before .before .loop-test .taken) (l .inv .1) (c .before .before .line-of .ensures))
 
 returns : tie.Need-returns Inv-loop μ-loop
 returns c =
     let a = c .before .before .before .before .args in
-    remains-none (rw (lines-none (named (a .names) (a .width)) (a .width) (a .n) (a .codes .now) (c .before .loop .i) (c .loop-test .left)) at (c .before .loop .inv .1))
+    remains-none (rw (lines-none (a .full) (named (a .names) (a .width)) (a .width) (a .n) (a .codes .now) (c .before .loop .i) (c .loop-test .left)) at (c .before .loop .inv .1))
 
 same-length : tie.Need-same-length Inv-loop μ-loop
 same-length c = writes-length (returns c)

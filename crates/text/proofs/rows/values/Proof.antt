@@ -13,10 +13,10 @@ use Rattle.text.proofs.rows.values.Statement.{statement}
 use Rattle.text.proofs.rows.values.Tie as tie
 
 abbrev Inv-loop : tie.InvT-loop
-Inv-loop out₀ at codes to₀ i₀ out to i = (i ≤ length codes) × Remains out₀ at (values codes) out to (values (drop i codes))
+Inv-loop out₀ at full codes to₀ i₀ out to i = (i ≤ length codes) × Remains out₀ at (values full codes) out to (values full (drop i codes))
 
 abbrev μ-loop : tie.MeasureT-loop
-μ-loop out₀ at codes to₀ i₀ out to i = length codes - i
+μ-loop out₀ at full codes to₀ i₀ out to i = length codes - i
 
 loop-holds : tie.Need-loop-holds Inv-loop μ-loop
 loop-holds c = (omega arith, λ r out′ w. w)
@@ -43,10 +43,10 @@ loop-again : tie.Need-loop-again Inv-loop μ-loop
 loop-again c =
     let l = c .before .before .before .before .before .before .before .before .before .before .loop in
     let a = c .before .before .before .before .before .before .before .before .before .before .before .before .before .args in
-    (omega arith, row-less values (λ (x : ℕ). code " " ∷ shown x) refl (λ x xs. refl) (a .codes .now) (l .i) (c .before .before .before .before .before .before .before .before .before .loop-test .taken) (l .inv .1) (writes-then (c .before .before .before .before .before .before .before .put .ensures) (c .before .before .shown .ensures)))
+    (omega arith, row-less (values (a .full)) (λ (x : ℕ). code " " ∷ shown (a .full) x) refl (λ x xs. refl) (a .codes .now) (l .i) (c .before .before .before .before .before .before .before .before .before .loop-test .taken) (l .inv .1) (writes-then (c .before .before .before .before .before .before .before .put .ensures) (c .before .before .shown .ensures)))
 
 returns : tie.Need-returns Inv-loop μ-loop
-returns c = row-done values (λ (x : ℕ). code " " ∷ shown x) refl (λ x xs. refl) (c .before .before .before .before .args .codes .now) (c .before .loop .i) (c .loop-test .left) (c .before .loop .inv .1)
+returns c = row-done (values (c .before .before .before .before .args .full)) (λ (x : ℕ). code " " ∷ shown (c .before .before .before .before .args .full) x) refl (λ x xs. refl) (c .before .before .before .before .args .codes .now) (c .before .loop .i) (c .loop-test .left) (c .before .loop .inv .1)
 
 same-length : tie.Need-same-length Inv-loop μ-loop
 same-length c = writes-length (returns c)

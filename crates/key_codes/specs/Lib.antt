@@ -1,0 +1,2 @@
+pub mod View
+pub mod Codes

@@ -1,0 +1,14 @@
+-- `lamps::code::lamps_sound` meets its contract: the laws `sound-code` and `code-sound`. Assumes nothing.
+use borrow.Author.Tests.{eqb-true, eq-eqb}
+use Rattle.lamps.specs.Lamp.{sound-code, code-sound}
+use Rattle.lamps.proofs.code.lamps_sound.Statement.{statement}
+use Rattle.lamps.proofs.code.lamps_sound.Tie as tie
+
+returns : tie.Need-returns
+returns c = λ w W. record {
+  so = λ e. sound-code w (c .args .wide) (c .args .code) W (c .fits .code .fits) (eqb-true _ 0 e);
+  back = λ h. eq-eqb _ 0 (code-sound w (c .args .wide) (c .args .code) W (c .fits .code .fits) h);
+}
+
+pub lamps-sound-spec : {M : Type 1} → statement M
+lamps-sound-spec = tie.close (tie.spec returns)

@@ -1,0 +1,4 @@
+pub mod View
+pub mod Lamp
+pub mod Row
+pub mod Whole

@@ -1,0 +1,74 @@
+// One code.
+ghost use mathlib.Core.Path.{_≡_};
+ghost use Prim.Native.Nat.{ℕ, _<_};
+ghost use Rattle.rules.specs.Tests.{Tests};
+ghost use Rattle.knowing.specs.Standing.{Within};
+ghost use Rattle.knowing.specs.Know.{join};
+ghost use Rattle.knowing.specs.Holds.{holds};
+ghost use Rattle.lamps.specs.View.{shown};
+ghost use Rattle.lamps.specs.Lamp.{Wide, codeOf, putCode, metCode};
+
+// The bits of a width, in both bytes of a code: of a cell, a column, the LED, and a pair or the port.
+pub const EIGHT: u16 = 0xFFFF;
+
+pub const SEVEN: u16 = 0x7F7F;
+
+pub const FOUR: u16 = 0x0F0F;
+
+pub const TWO: u16 = 0x0303;
+
+// What two codes have in common, bit by bit.
+pub fn both_lamps(a: u16, b: u16) -> u16
+    ensures { λ r. ⌜ ((w k : ℕ) → shown w r k ≡ join (shown w a k) (shown w b k)) ⌝ }
+{
+    let d = a ^ b;
+    let e = d | (d << 8) | (d >> 8);
+    a ^ (a & e)
+}
+
+// The code of a byte of which every bit of the width is known.
+pub fn code_of(wide: u16, byte: u8) -> u16
+    ensures { λ r. ⌜ r ≡ codeOf wide byte ⌝ }
+{
+    (0xFF00 | (byte as u16)) & wide
+}
+
+// A code with every bit of the width known to be that of a byte.
+pub fn put_byte(wide: u16, code: u16, byte: u8) -> u16
+    ensures { λ r. ⌜ (r ≡ putCode wide code (codeOf wide byte)) × ((code < 65536) × (byte < 256)) ⌝ }
+{
+    put_code(wide, code, code_of(wide, byte))
+}
+
+fn put_code(wide: u16, code: u16, c: u16) -> u16
+    ensures { λ r. ⌜ r ≡ putCode wide code c ⌝ }
+{
+    (code ^ (code & wide)) | c
+}
+
+// A code where the byte of the code `c` may have gone: a known bit that differs from the byte's is forgotten, and one that does not is the byte's. A loop
+// of this is what a byte at an unknown address costs, so it is written in as few steps as there can be.
+pub fn meet_code(wide: u16, code: u16, c: u16) -> u16
+    ensures { λ r. ⌜ r ≡ metCode wide code c ⌝ }
+{
+    let d = code ^ c;
+    let e = d | (d << 8) | (d >> 8);
+    (code ^ (code & wide)) | (c ^ (c & e))
+}
+
+// Number 2 of one code: no bit past the width, and no value where there is no mark.
+pub fn lamps_sound(wide: u16, code: u16) -> bool
+    ensures { λ r. ⌜ ((w : ℕ) → Wide w wide → Tests r ((k : ℕ) → Within 2 (shown w code k))) ⌝ }
+{
+    let past = code ^ (code & wide);
+    let low = code & 255;
+    let unmarked = low ^ (low & (code >> 8));
+    (past | unmarked) == 0
+}
+
+// This cell of eight bits is known to hold this byte: one function for all that asks this of a cell.
+pub fn holds(code: u16, byte: u8) -> bool
+    ensures { λ r. ⌜ r ≡ holds 8 (shown 8 code) byte ⌝ }
+{
+    code == code_of(EIGHT, byte)
+}
