@@ -69,7 +69,8 @@ module _ (b : ℕ) (p : Part) (named : partOf b ≡ Is p) (e : Event) (k : Panel
         event-exact (knownOf p) (same? p) (range p) (two p) (move p e) k (r .panel) (done .1 .after .known) (done .0)
 
     -- So a whole cell, LED or port, whose bits are these w facts, is known to hold a byte exactly when every result of
-    -- every fitting chip has that byte there.
+    -- every fitting chip has that byte there: for cell i of PT6312 or PT6315 `bits` is `cell i` and w is `cellBits`, and
+    -- so for the LED, DCRAM, CGRAM, ADRAM and the port, with the bits that each has by `segment/Fact` or `character/Fact`.
     pub heard-byte-exact : (bits : ℕ → Fact p) (w byte : ℕ)
         → (Spells w (λ j. knownOf p (r .panel) (bits j)) byte → AllHaveByte (range p) (move p e) (knownOf p k) bits w byte)
         × (AllHaveByte (range p) (move p e) (knownOf p k) bits w byte → Spells w (λ j. knownOf p (r .panel) (bits j)) byte)

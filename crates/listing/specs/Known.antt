@@ -1,5 +1,5 @@
 -- What a cell prints as, by what is known of its bits: the byte where every one of them is known, and ?? where one is not
--- (M-107). The argument: a code in range is of a byte exactly where all its marks are set.
+-- (M-107). The argument: the code of a cell, where it is in range, has all its marks exactly where every bit is known.
 use Prim.Native.Nat.{ℕ, _/_, _%_, _^_, _-_, _<_}
 use Prim.Native.Char.{code}
 use mathlib.Core.Bool.{Bool, true, false}
@@ -23,6 +23,7 @@ use Rattle.character_knowledge.specs.View as CharacterView
 use Rattle.text.specs.Text.{hex, shown}
 use Rattle.listing.specs.Memory.{cellMarks, columnMarks, pairMarks}
 
+-- A byte prints as two hex digits, and what is unknown as ??.
 abbrev pub printed : Standing → List ℕ
 printed (known byte) = hex byte
 printed unknown = code "?" ∷ code "?" ∷ []

@@ -1,5 +1,5 @@
 -- The painting of PT6302, and the chip that it leads to (paper 01, "Painting").
-use Prim.Native.Nat.{ℕ, _+_, _<_}
+use Prim.Native.Nat.{ℕ, _+_, _^_, _<_}
 use mathlib.Core.List.{List, [], _∷_, _++_}
 use lib.ListN.{getD}
 use lib.Dec.{ltb}
@@ -12,12 +12,12 @@ use Rattle.character.specs.Fact.{Fact, range, dcram, cgram, adram, dcramAt, cgr
 use Rattle.character.specs.Value.{lit, at-position}
 use Rattle.painting.specs.declared.CharacterPicture.{CharacterPicture}
 
--- The picture's values are in range: duty and digits as their facts have it, a column as a number of seven bits, a pair and the port of two. A DCRAM cell is
--- a byte, and the lights a name of their own.
+-- The picture's values are in range: duty and digits as their facts have it, a column, a pair and the port as numbers of so many bits. A DCRAM cell is a
+-- byte, and the lights a name of their own.
 pub record InRanges (p : CharacterPicture) : Type 0 where
-  pub columns-in : (i : ℕ) → getD (p .cgram) i 0 < 128
-  pub pairs-in : (i : ℕ) → getD (p .adram) i 0 < 4
-  pub port-in : p .port < 4
+  pub columns-in : (i : ℕ) → getD (p .cgram) i 0 < 2 ^ columnBits
+  pub pairs-in : (i : ℕ) → getD (p .adram) i 0 < 2 ^ pairBits
+  pub port-in : p .port < 2 ^ portBits
   pub duty-in : p .duty < range duty
   pub digits-in : p .digits < range digits
 

@@ -1,5 +1,5 @@
 -- Number 9, as a test that computes, and that it says no more and no less than that every value is in range.
-use Prim.Native.Nat.{ℕ, zero, suc, _+_, _<_}
+use Prim.Native.Nat.{ℕ, zero, suc, _+_, _^_, _<_}
 use native.Mathlib.Omega.{arith}
 use native.Mathlib.Numerals.{add-one}
 use mathlib.Core.Path.{_≡_, refl, sym, ap, _∙_}
@@ -22,7 +22,7 @@ abbrev pub segmentFits : Sizes → SegmentPicture → Bool
 segmentFits s p =
     ltb (p .mode) (Segment.range s Segment.mode)
     && (ltb (p .dimming) (Segment.range s Segment.dimming)
-    && ltb (p .led) 16)
+    && ltb (p .led) (2 ^ Segment.ledBits))
 
 -- Every number of the list is below n.
 abbrev pub allBelow : ℕ → List ℕ → Bool
@@ -31,9 +31,9 @@ allBelow n (x ∷ xs) = ltb x n && allBelow n xs
 
 abbrev pub characterFits : CharacterPicture → Bool
 characterFits p =
-    allBelow 128 (p .cgram)
-    && (allBelow 4 (p .adram)
-    && (ltb (p .port) 4
+    allBelow (2 ^ Character.columnBits) (p .cgram)
+    && (allBelow (2 ^ Character.pairBits) (p .adram)
+    && (ltb (p .port) (2 ^ Character.portBits)
     && (ltb (p .duty) (Character.range Character.duty)
     && ltb (p .digits) (Character.range Character.digits))))
 

@@ -1,5 +1,5 @@
 -- The painting of PT6312 and PT6315, and the chip that it leads to (paper 01, "Painting").
-use Prim.Native.Nat.{ℕ, _+_, _*_, _<_}
+use Prim.Native.Nat.{ℕ, _+_, _*_, _^_, _<_}
 use mathlib.Core.List.{List, [], _∷_, _++_}
 use lib.ListN.{getD, take}
 use lib.Dec.{ltb}
@@ -16,12 +16,12 @@ use Rattle.segment.specs.Fact.{Fact, range, cell, address, dataMode, stepping, 
 use Rattle.segment.specs.Value.{pointer, data-mode, steps, shows, at-position}
 use Rattle.painting.specs.declared.SegmentPicture.{SegmentPicture}
 
--- The picture's values are in range: mode and dimming as their facts have it, the LED as a number of four bits. A cell is a byte, and the display a name
--- of its own.
+-- The picture's values are in range: mode and dimming as their facts have it, the LED as a number of so many bits. A cell is a byte, and the display a
+-- name of its own.
 pub record InRanges (s : Sizes) (p : SegmentPicture) : Type 0 where
   pub mode-in : p .mode < range s mode
   pub dimming-in : p .dimming < range s dimming
-  pub led-in : p .led < 16
+  pub led-in : p .led < 2 ^ ledBits
 
 -- Display control: bits 2 to 0 dimming, bit 3 on.
 abbrev pub control : SegmentPicture → ℕ

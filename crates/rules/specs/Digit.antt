@@ -1,4 +1,4 @@
--- The bits of a number, each a number below two; bit 0 is the low one. What `&`, `|`, `^`, `<<` and `>>` make of each bit.
+-- The bits of a number, each a number below two; bit 0 is the low one. What `&`, `|` and `^` make of each bit.
 use Prim.Native.Nat.{ℕ, zero, suc, _+_, _*_, _/_, _%_, _^_, _-_, _<_, _≤_, min, max}
 use native.Mathlib.Omega.{arith}
 use native.Mathlib.Nat.{mod-lt, div-eq-of-lt, div-add-mod', lt-of-lt-of-le, div-one, one-mul, mul-div-cancel, mod-eq-of-lt}
@@ -12,13 +12,15 @@ use lib.Pow.{pow-mono, pow-lt, pow-pos, shr-shr, ones-lt}
 use lib.Bits.{bitAnd, bitOr, bitXor, differ, and-shr, or-shr, xor-shr, and-mod, or-mod, xor-mod, and-mask}
 use Rattle.rules.specs.Choice.{whether}
 
+-- Bit k of b.
 unfoldable pub digit : ℕ → ℕ → ℕ
 digit k b = b / 2 ^ k % 2
 
--- What a chip shows of bit k of a stored number: of a byte, and of a number of w bits, where a bit past them that is set has no value in range.
+-- What a chip shows of bit k of a stored byte: past its eight bits there is nothing.
 abbrev pub lamp : ℕ → ℕ → ℕ
 lamp k b = whether (ltb k 8) (digit k b) 0
 
+-- And of a stored number of w bits, fewer than its byte has: a bit past them that is set shows as 2, which is no value in range.
 abbrev pub narrow : ℕ → ℕ → ℕ → ℕ
 narrow w k b = whether (ltb k w) (digit k b) (2 * digit k b)
 

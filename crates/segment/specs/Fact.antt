@@ -26,7 +26,8 @@ abbrev pub ledBits : ℕ
 ledBits = 4
 
 -- What a part lacks, as a cell past its last, a fourth key byte or switches, is no fact of it: whatever its storage
--- holds is in range, and no rule looks at it. A bit past a cell's eight or the LED's four is none either, and no rule sets it.
+-- holds is in range, and no rule looks at it. A bit past a cell's eight or the LED's four is no fact either, and no rule
+-- sets it; where storage has room for one, as the LED's has, a value or a mark there is out of range (`lamps/View`).
 abbrev pub lacking : ℕ
 lacking = 65536
 

@@ -31,7 +31,7 @@ sets g v φ = change same? g (value v) φ
 abbrev pub stores : ℕ → ℕ → Forms → Forms
 stores i b φ = setBits same? (cell i) cellBits b φ
 
--- Each of the LED's four bits becomes that of the byte b; a bit past them, which no chip in range has, stays.
+-- Each of the LED's four bits becomes that of the byte b; a bit past them, which no LED has, stays.
 abbrev pub lights : ℕ → Forms → Forms
 lights b φ = setBits same? led ledBits b φ
 

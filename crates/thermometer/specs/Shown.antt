@@ -3,9 +3,9 @@ use Prim.Native.Nat.{ℕ, _+_, _<_, _≤_}
 use mathlib.Core.Path.{_≡_}
 use mathlib.Core.Bool.{true}
 use lib.IntN.{ℤ}
-use Rattle.rules.specs.Digit.{digit}
 use Rattle.knowing.specs.Standing.{Standing}
 use Rattle.knowing.specs.Holds.{isKnown, holds}
+use Rattle.knowing.specs.Bytes.{HasByte}
 use Rattle.character.specs.declared.chip.Lights.the-variants.{Normal}
 use Rattle.character.specs.Value.{lit}
 use Rattle.character.specs.Fact.{Fact, dcram, lights, digits, textBits}
@@ -16,7 +16,7 @@ use Rattle.thermometer.specs.Answer.{cellOf}
 
 -- The chip's DCRAM i is this byte: each of its eight bits is the byte's.
 abbrev pub CellIs : (Fact → ℕ) → ℕ → ℕ → Type 0
-CellIs c i byte = (j : ℕ) → j < textBits → c (dcram i j) ≡ digit j byte
+CellIs c i byte = HasByte textBits (λ j. c (dcram i j)) byte
 
 -- The chip's five cells from `start` on are these bytes.
 pub record FieldIs (c : Fact → ℕ) (start : ℕ) (f : Five) : Type 0 where
