@@ -3,12 +3,11 @@ use Prim.Native.Nat.{ℕ, zero, suc, _+_, _*_, _<_}
 use mathlib.Core.Path.{_≡_}
 use mathlib.Core.Bool.{Bool, false, _||_}
 use mathlib.Core.List.{List}
-use lib.Dec.{eqb, ltb}
-use Rattle.rules.specs.Digit.{digit}
+use lib.Dec.{eqb}
+use lib.ListN.{length}
 use Rattle.rules.specs.Choice.{whether}
-use Rattle.knowing.specs.Standing.{Standing, known, unknown}
-use Rattle.knowing.specs.Know.{join}
-use Rattle.lamps.specs.View.{held}
+use Rattle.knowing.specs.Standing.{Standing, unknown}
+use Rattle.lamps.specs.View.{held, Wide, told, met, OfByte}
 use Rattle.changes.specs.declared.change.Change.{Change}
 use Rattle.changes.specs.declared.change.Change.the-variants.{Keep, Put, Meet, Forget}
 
@@ -16,13 +15,6 @@ use Rattle.changes.specs.declared.change.Change.the-variants.{Keep, Put,
 abbrev pub among : ℕ → ℕ → ℕ → ℕ → Bool
 among from by zero i = false
 among from by (suc n) i = eqb i (from + by * n) || among from by n i
-
--- What is known of a bit, for bytes of w bits, when a byte is put there, and when it may have been.
-abbrev pub told : ℕ → ℕ → ℕ → Standing → Standing
-told w b k s = whether (ltb k w) (known (digit k b)) s
-
-abbrev pub met : ℕ → ℕ → ℕ → Standing → Standing
-met w b k s = whether (ltb k w) (join s (known (digit k b))) s
 
 -- What is known of bit k of code i after a change, by what was known before.
 abbrev pub seen : ℕ → Change → ℕ → ℕ → Standing → Standing
@@ -34,6 +26,11 @@ seen w Forget i k s = unknown
 -- The codes r are those of l after a change.
 abbrev pub Changes : ℕ → Change → List ℕ → List ℕ → Type 0
 Changes w x l r = (i k : ℕ) → held w r i k ≡ seen w x i k (held w l i k)
+
+-- The codes r are those of l, but that the byte of the code c may have gone to n of them, from `from` on, one in `by`.
+pub record Met (wide c : ℕ) (l : List ℕ) (from by n : ℕ) (r : List ℕ) : Type 0 where
+  pub shows : (w b : ℕ) → Wide w wide → OfByte w b c → Changes w (Meet (record { 0 = from }) by n b) l r
+  pub size : length r ≡ length l
 
 -- The change stays within a row of that many codes.
 abbrev pub Inside : ℕ → Change → Type 0

@@ -2,10 +2,12 @@
 use Prim.Native.Nat.{ℕ, zero, suc, _+_, _*_, _<_, _≤_}
 use native.Mathlib.Omega.{arith}
 use native.Mathlib.Decide.{decLt, ℕ-discrete}
-use mathlib.Core.Path.{_≡_, refl, sym, ap, _∙_, subst⁻¹}
+use native.Mathlib.Nat.{mul-lt-mul-of-pos-left}
+use native.Mathlib.Numerals.{add-one}
+use mathlib.Core.Path.{_≡_, refl, sym, ap, _∙_, subst}
 use mathlib.Core.Bool.{Bool, true, false, _||_, true≢false}
 use mathlib.Core.List.{List}
-use lib.ListN.{length, getD, set, List·getD-eq-default}
+use lib.ListN.{length, length-set, getD, set, List·getD-eq-default}
 use lib.Seq.{getD-set-same, getD-set-other}
 use lib.Dec.{eqb, ltb}
 use borrow.Author.Tests.{eqb-true, eq-eqb, ne-eqb, lt-ltb, le-ltb}
@@ -19,10 +21,9 @@ use Rattle.knowing.specs.Know.{join, lifted}
 use Rattle.knowing.specs.Join.{join-swap, join-again, join-not, join-nor, join-itself}
 use Rattle.changes.specs.declared.change.Change.{Change}
 use Rattle.changes.specs.declared.change.Change.the-variants.{Keep, Put, Meet, Forget}
-use Rattle.lamps.specs.Lamp.{Wide, codeOf, putCode, metCode, put-shown, met-shown}
-use Rattle.lamps.specs.View.{shown, held}
-use Rattle.lamps.specs.Row.{none-shown, TwoBytes, Met}
-use Rattle.changes.specs.Change.{among, told, met, seen, Inside, loose, joinedWith, joined, TogetherWith, Together, Plain}
+use Rattle.lamps.specs.View.{shown, held, Wide, told, met, Puts, Meets}
+use Rattle.lamps.specs.Lamp.{none-shown}
+use Rattle.changes.specs.Change.{among, seen, Met, Inside, loose, joinedWith, joined, TogetherWith, Together, Plain}
 
 -- A bit that keeps or takes part.
 by-test : (t : Bool) (s x : Standing) → whether t (join s x) s ≡ join s (whether t x s)
@@ -132,16 +133,13 @@ forgot-all w l n h e i k = go (decLt i n)
     go (yes p) = ap (λ (c : ℕ). shown w c k) (h i p) ∙ none-shown w k
     go (no p) = ap (λ (c : ℕ). shown w c k) (List·getD-eq-default l 0 (omega arith)) ∙ none-shown w k
 
--- One code put.
-pub put-seen : (w wide b : ℕ) (l : List ℕ) (a i k : ℕ) → Wide w wide → b < 256 → TwoBytes l → a < length l
-    → held w (set l a (putCode wide (getD l a 0) (codeOf wide b))) i k ≡ whether (eqb i a) (told w b k (held w l i k)) (held w l i k)
-put-seen w wide b l a i k W hb s h = go (ℕ-discrete i a)
+-- One code changed, by what it shows.
+pub set-seen : (w : ℕ) (f : ℕ → Standing → Standing) (l : List ℕ) (a x : ℕ) → a < length l → ((k : ℕ) → shown w x k ≡ f k (held w l a k)) → (i k : ℕ)
+    → held w (set l a x) i k ≡ whether (eqb i a) (f k (held w l i k)) (held w l i k)
+set-seen w f l a x h e i k = go (ℕ-discrete i a)
   where
-    x : ℕ
-    x = putCode wide (getD l a 0) (codeOf wide b)
-
-    go : Dec (i ≡ a) → held w (set l a x) i k ≡ whether (eqb i a) (told w b k (held w l i k)) (held w l i k)
-    go (yes p) = rw (p, eq-eqb a a refl) (ap (λ (c : ℕ). shown w c k) (getD-set-same l a x 0 h) ∙ put-shown w wide b W hb (getD l a 0) k (s a))
+    go : Dec (i ≡ a) → held w (set l a x) i k ≡ whether (eqb i a) (f k (held w l i k)) (held w l i k)
+    go (yes p) = rw (p, eq-eqb a a refl) (ap (λ (c : ℕ). shown w c k) (getD-set-same l a x 0 h) ∙ e k)
     go (no p) = rw (ne-eqb i a p) (ap (λ (c : ℕ). shown w c k) (getD-set-other l a i x 0 p))
 
 -- Which of the numbers it is, or that it is none.
@@ -188,14 +186,34 @@ met-or-not w from by n b i k s t here rest = among-or-not from by n i (met w b k
     go j h p (yes l) = rw (lt-ltb k w l) (here j h p l)
     go j h p (no m) = rw (le-ltb k w (omega arith)) (rest (λ j h l. absurd (m l)))
 
--- A byte that may have gone to any of several codes.
-pub met-seen : (w wide : ℕ) (l r : List ℕ) (from by b n i k : ℕ) → Wide w wide → b < 256 → TwoBytes l → Met (λ (a : ℕ). metCode wide a (codeOf wide b)) l from by n r
-    → held w r i k ≡ whether (among from by n i) (met w b k (held w l i k)) (held w l i k)
-met-seen w wide l r from by b n i k W small s m =
-    sym (among-or-not from by n i _ _ (held w r i k)
-    (λ j h p. sym (subst⁻¹ (λ (x : ℕ). held w r x k ≡ met w b k (held w l x k)) p
-    (ap (λ (c : ℕ). shown w c k) (m .here j h) ∙ met-shown w wide b W small (getD l (from + by * j) 0) k (s (from + by * j)))))
-    (λ h. sym (ap (λ (c : ℕ). shown w c k) (m .rest i h))))
+-- A byte that may have gone to none of the codes, and to one more. The codes before it are others, as the distance is not nought.
+pub met-none : (wide c : ℕ) (l : List ℕ) (from by : ℕ) → Met wide c l from by 0 l
+met-none wide c l from by = record { shows = λ w b W o i k. refl; size = refl }
+
+fresh : (from by n m : ℕ) → 0 < by → n ≤ m → among from by n (from + by * m) ≡ false
+fresh from by zero m step h = refl
+fresh from by (suc n) m step h =
+    let t : by * n < by * m = mul-lt-mul-of-pos-left (omega arith) step in
+    rw (ne-eqb (from + by * m) (from + by * n) (λ e. omega arith), fresh from by n m step (omega arith)) refl
+
+pub met-more : (wide c : ℕ) (l r : List ℕ) (from by n x : ℕ) → 0 < by → Met wide c l from by n r → from + by * n < length r → Meets wide c (getD r (from + by * n) 0) x
+    → Met wide c l from by (n + 1) (set r (from + by * n) x)
+met-more wide c l r from by n x step m h e = record {
+  shows = λ w b W o i k. rw add-one
+      (set-seen w (met w b) r (from + by * n) x h (e w b W o) i k
+      ∙ rw (m .shows w b W o i k) (once (eqb i (from + by * n)) (among from by n i) (held w l i k) (met w b k) (λ t. ap (among from by n) (eqb-true i _ t) ∙ fresh from by n n step (omega arith))));
+  size = length-set r (from + by * n) x ∙ m .size;
+}
+  where
+    once : (t u : Bool) (s : Standing) (f : Standing → Standing) → (t ≡ true → u ≡ false) → whether t (f (whether u (f s) s)) (whether u (f s) s) ≡ whether (t || u) (f s) s
+    once true u s f h = rw (h refl) refl
+    once false u s f h = refl
+
+-- The same where the codes stand side by side.
+pub met-run : (wide c : ℕ) (l r : List ℕ) (from n x : ℕ) → Met wide c l from 1 n r → from + n < length r → Meets wide c (getD r (from + n) 0) x → Met wide c l from 1 (n + 1) (set r (from + n) x)
+met-run wide c l r from n x m =
+    let z : from + 1 * n ≡ from + n = omega arith in
+    subst (λ (k : ℕ). k < length r → Meets wide c (getD r k 0) x → Met wide c l from 1 (n + 1) (set r k x)) z (met-more wide c l r from 1 n x (omega arith) m)
 
 -- A code put is its bits set: the facts are numbered by code and bit, as those of cells are.
 module _ {F : Type 0} (same? : Discrete F) (numbered : ℕ → ℕ → F) (apart : (i k j n : ℕ) → numbered i k ≡ numbered j n → (i ≡ j) × (k ≡ n)) (v : F → Standing) where
@@ -223,7 +241,5 @@ module _ {F : Type 0} (same? : Discrete F) (at : ℕ → F) (apart : (i j : ℕ)
       go (no n) = rw (le-ltb k w (omega arith)) (sym (ap (lifted v) (bits-leave same? at w b keep (at k) (λ m l q. absurd (past w k n m l (apart k m q))))))
 
   -- The same for the code that the byte was put in, as `put_byte` promises it.
-  pub code-told : (w wide b old new k : ℕ) → Wide w wide → v (at k) ≡ shown w old k → (new ≡ putCode wide old (codeOf wide b)) × ((old < 65536) × (b < 256))
-      → shown w new k ≡ lifted v (setBits same? at w b keep (at k))
-  code-told w wide b old new k W e p =
-      ap (λ (n : ℕ). shown w n k) (p .0) ∙ put-shown w wide b W (p .1 .1) old k (p .1 .0) ∙ ap (told w b k) (sym e) ∙ bits-told w b k
+  pub code-told : (w wide b old new k : ℕ) → Wide w wide → v (at k) ≡ shown w old k → Puts wide b old new → shown w new k ≡ lifted v (setBits same? at w b keep (at k))
+  code-told w wide b old new k W e p = p w W k ∙ ap (told w b k) (sym e) ∙ bits-told w b k

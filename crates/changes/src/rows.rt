@@ -8,16 +8,14 @@ ghost use mathlib.Core.Path.{_≡_};
 ghost use Prim.Native.Nat.{ℕ, _+_, _*_, _<_};
 ghost use lib.ListN.{length};
 ghost use Rattle.knowing.specs.Standing.{unknown};
-ghost use Rattle.lamps.specs.View.{held};
-ghost use Rattle.lamps.specs.Lamp.{Wide, metCode};
-ghost use Rattle.lamps.specs.Row.{Met};
-ghost use Rattle.changes.specs.Change.{Inside, Changes};
+ghost use Rattle.lamps.specs.View.{held, Wide};
+ghost use Rattle.changes.specs.Change.{Inside, Changes, Met};
 ghost use Rattle.changes.specs.declared.change.Change.the-variants.{Put, Meet};
 
 // A byte may have gone to any of these codes: `count` of them, from `from` on, one in `by`. Each keeps what it has in common with the byte.
 fn meet(codes: &mut [u16], wide: u16, from: usize, by: usize, count: usize, c: u16)
     requires { ⌜ (0 < by) × ((i : ℕ) → i < count → from + by * i < length (now codes)) ⌝ }
-    ensures { λ r. ⌜ Met (λ (a : ℕ). metCode wide a c) (now (codes .entry)) from by count (now (codes .exit)) ⌝ }
+    ensures { λ r. ⌜ Met wide c (now (codes .entry)) from by count (now (codes .exit)) ⌝ }
 {
     let mut i = 0;
     while i < count {
@@ -30,7 +28,7 @@ fn meet(codes: &mut [u16], wide: u16, from: usize, by: usize, count: usize, c: u
 // The same for codes that stand side by side, a loop that goes quickly.
 fn meet_run(codes: &mut [u16], wide: u16, from: usize, count: usize, c: u16)
     requires { ⌜ ((i : ℕ) → i < count → from + 1 * i < length (now codes)) ⌝ }
-    ensures { λ r. ⌜ Met (λ (a : ℕ). metCode wide a c) (now (codes .entry)) from 1 count (now (codes .exit)) ⌝ }
+    ensures { λ r. ⌜ Met wide c (now (codes .entry)) from 1 count (now (codes .exit)) ⌝ }
 {
     let mut i = 0;
     while i < count {

@@ -8,7 +8,8 @@ use Rattle.rules.specs.Choice.{whether}
 use Rattle.knowing.specs.Standing.{Standing, unknown}
 use Rattle.knowing.specs.Know.{common, know}
 use Rattle.knowing.specs.Look.{look-unknown}
-use Rattle.changes.specs.Change.{among, met}
+use Rattle.lamps.specs.View.{met}
+use Rattle.changes.specs.Change.{among}
 use Rattle.changes.specs.Together.{met-or-not}
 use Rattle.character.specs.Fact.{Fact, same?, range, dcram, cgram, adram, dcramAt, cgramAt, adramAt, column, port, duty, digits, lights, position}
 use Rattle.character.specs.Laws.{every, dcram-apart, adram-apart}

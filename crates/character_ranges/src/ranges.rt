@@ -15,7 +15,7 @@ ghost use lib.ListN.{length};
 ghost use Rattle.knowing.specs.Standing.{Within, Sound};
 ghost use Rattle.character.specs.Fact.{range};
 ghost use Rattle.rules.specs.Tests.{Tests};
-ghost use Rattle.lamps.specs.Lamp.{Wide};
+ghost use Rattle.lamps.specs.View.{Wide};
 ghost use Rattle.lamps.specs.Row.{LampsSound};
 ghost use Rattle.character_knowledge.specs.View.{blank, cview, kview, points};
 ghost use Rattle.character_ranges.specs.Ranges.{SinglesSound, OthersSound};

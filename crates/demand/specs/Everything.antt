@@ -17,9 +17,8 @@ use Rattle.terms.specs.declared.Part.{Part}
 use Rattle.terms.specs.declared.Part.the-variants.{Pt6302, Pt6312, Pt6315}
 use Rattle.standing.specs.declared.standing.Standing.the-variants.{Known}
 use Rattle.key_codes.specs.View.{coded}
-use Rattle.lamps.specs.View.{shown, held}
-use Rattle.lamps.specs.Lamp.{Wide, wide8, wide7, wide4, wide2, codeOf, code-shown}
-use Rattle.lamps.specs.Row.{none-shown}
+use Rattle.lamps.specs.View.{shown, held, OfByte}
+use Rattle.lamps.specs.Lamp.{wide8, wide7, wide4, wide2, none-shown, code-shown}
 use Rattle.segment.specs.declared.chip.Sizes.{Sizes}
 use Rattle.segment.specs.declared.chip.Family.{Family}
 use Rattle.segment.specs.declared.chip.Family.the-variants as OfFamily
@@ -95,7 +94,7 @@ all-known-starts Pt6315 k all = record { settings = λ f e. all f (segment-setti
 abbrev pub everything : Panel
 everything = record {
   segment = record {
-    cells = replicate 36 (codeOf 0xFFFF 0);
+    cells = replicate 36 0xFF00;
     control = record {
       address = OfSegment.At (record { 0 = 0 });
       «data» = Known 0;
@@ -103,7 +102,7 @@ everything = record {
       mode = Known 0;
       dimming = Known 0;
       display = Known 0;
-      led = codeOf 0x0F0F 0;
+      led = 0x0F00;
       keys = replicate 4 0;
       switches = Known 0;
       count = Known 0;
@@ -111,15 +110,15 @@ everything = record {
     };
   };
   character = record {
-    dcram = replicate 16 (codeOf 0xFFFF 0);
-    cgram = replicate 40 (codeOf 0x7F7F 0);
-    adram = replicate 16 (codeOf 0x0303 0);
+    dcram = replicate 16 0xFF00;
+    cgram = replicate 40 0x7F00;
+    adram = replicate 16 0x0300;
     control = record {
       «dcram_at» = OfCharacter.At (record { 0 = 0 });
       «cgram_at» = OfCharacter.At (record { 0 = 0 });
       «adram_at» = OfCharacter.At (record { 0 = 0 });
       column = Known 0;
-      port = codeOf 0x0303 0;
+      port = 0x0300;
       duty = Known 0;
       digits = Known 0;
       lights = Known 0;
@@ -128,27 +127,40 @@ everything = record {
   };
 }
 
--- Each bit of such a code is known, and in range.
-module _ (w wide : ℕ) (W : Wide w wide) where
-  bit-known : (k : ℕ) → ltb k w ≡ true → IsKnown (shown w (codeOf wide 0) k)
-  bit-known k e = (digit k 0, code-shown w wide 0 W (omega arith) k ∙ rw e refl)
+-- Those codes are of the byte 0.
+zero8 : OfByte 8 0 0xFF00
+zero8 = code-shown 8 0xFFFF wide8 0 (omega arith)
 
-  bit-in : (k : ℕ) → Within 2 (shown w (codeOf wide 0) k)
+zero7 : OfByte 7 0 0x7F00
+zero7 = code-shown 7 0x7F7F wide7 0 (omega arith)
+
+zero4 : OfByte 4 0 0x0F00
+zero4 = code-shown 4 0x0F0F wide4 0 (omega arith)
+
+zero2 : OfByte 2 0 0x0300
+zero2 = code-shown 2 0x0303 wide2 0 (omega arith)
+
+-- Each bit of such a code is known, and in range.
+module _ (w c : ℕ) (o : OfByte w 0 c) where
+  bit-known : (k : ℕ) → ltb k w ≡ true → IsKnown (shown w c k)
+  bit-known k e = (digit k 0, o k ∙ rw e refl)
+
+  bit-in : (k : ℕ) → Within 2 (shown w c k)
   bit-in k =
-      subst⁻¹ (Within 2) (code-shown w wide 0 W (omega arith) k)
+      subst⁻¹ (Within 2) (o k)
       (whether-all (Within 2) (ltb k w) (known (digit k 0)) unknown (λ _. digit-small k 0) (λ _. tt))
 
-  row-known : (n i k : ℕ) → i < n → ltb k w ≡ true → IsKnown (held w (replicate n (codeOf wide 0)) i k)
-  row-known n i k h e = subst⁻¹ (λ (c : ℕ). IsKnown (shown w c k)) (getD-replicate n i (codeOf wide 0) 0 h) (bit-known k e)
+  row-known : (n i k : ℕ) → i < n → ltb k w ≡ true → IsKnown (held w (replicate n c) i k)
+  row-known n i k h e = subst⁻¹ (λ (x : ℕ). IsKnown (shown w x k)) (getD-replicate n i c 0 h) (bit-known k e)
 
-  row-in : (n i k : ℕ) → Within 2 (held w (replicate n (codeOf wide 0)) i k)
+  row-in : (n i k : ℕ) → Within 2 (held w (replicate n c) i k)
   row-in n i k = go (decLt i n)
     where
-      go : Dec (i < n) → Within 2 (held w (replicate n (codeOf wide 0)) i k)
-      go (yes h) = subst⁻¹ (λ (c : ℕ). Within 2 (shown w c k)) (getD-replicate n i (codeOf wide 0) 0 h) (bit-in k)
+      go : Dec (i < n) → Within 2 (held w (replicate n c) i k)
+      go (yes h) = subst⁻¹ (λ (x : ℕ). Within 2 (shown w x k)) (getD-replicate n i c 0 h) (bit-in k)
       go (no h) =
-          let l = length-replicate n (codeOf wide 0) in
-          subst⁻¹ (Within 2) (ap (λ (c : ℕ). shown w c k) (List·getD-eq-default (replicate n (codeOf wide 0)) 0 (omega arith)) ∙ none-shown w k) tt
+          let l = length-replicate n c in
+          subst⁻¹ (Within 2) (ap (λ (x : ℕ). shown w x k) (List·getD-eq-default (replicate n c) 0 (omega arith)) ∙ none-shown w k) tt
 
 key-known : (i : ℕ) → i < 4 → IsKnown (coded (getD (replicate 4 0) i 256))
 key-known i h = subst⁻¹ (λ (c : ℕ). IsKnown (coded c)) (getD-replicate 4 i 0 256 h) (0, refl)
@@ -177,31 +189,31 @@ segment-known q =
     SegmentLaws.every _
     (λ i j e.
     let t = both (ltb i (sizes q .cells)) (ltb j 8) e in
-    row-known 8 65535 wide8 36 i j (omega (arith, ltb-true i (sizes q .cells) (t .0), SegmentLaws.room q .0)) (t .1))
-    (λ e. (_, refl)) (λ e. (_, refl)) (λ e. (_, refl)) (λ e. (_, refl)) (λ e. (_, refl)) (λ e. (_, refl)) (λ j e. bit-known 4 3855 wide4 j e)
+    row-known 8 0xFF00 zero8 36 i j (omega (arith, ltb-true i (sizes q .cells) (t .0), SegmentLaws.room q .0)) (t .1))
+    (λ e. (_, refl)) (λ e. (_, refl)) (λ e. (_, refl)) (λ e. (_, refl)) (λ e. (_, refl)) (λ e. (_, refl)) (λ j e. bit-known 4 0x0F00 zero4 j e)
     (λ i e. key-known i (omega (arith, ltb-true i (sizes q .keys) e, SegmentLaws.room q .1))) (λ e. (_, refl)) (λ e. (_, refl)) (λ e. (_, refl))
 
 segment-in : (q : Family) (f : Segment.Fact) → Within (Segment.range (sizes q) f) (knownOf Pt6312 everything f)
 unfolding sizes
 segment-in OfFamily.Pt6312 =
-    SegmentLaws.every _ (λ i j. cell-in (ltb i 22) (knownOf Pt6312 everything (Segment.cell i j)) (row-in 8 65535 wide8 36 i j)) (omega arith) (omega arith) (omega arith) (omega arith) (omega arith) (omega arith)
-    (λ j. bit-in 4 3855 wide4 j) (λ i. key-in (ltb i 3) i) (omega arith) (omega arith) (omega arith)
+    SegmentLaws.every _ (λ i j. cell-in (ltb i 22) (knownOf Pt6312 everything (Segment.cell i j)) (row-in 8 0xFF00 zero8 36 i j)) (omega arith) (omega arith) (omega arith) (omega arith) (omega arith) (omega arith)
+    (λ j. bit-in 4 0x0F00 zero4 j) (λ i. key-in (ltb i 3) i) (omega arith) (omega arith) (omega arith)
 segment-in OfFamily.Pt6315 =
-    SegmentLaws.every _ (λ i j. cell-in (ltb i 36) (knownOf Pt6312 everything (Segment.cell i j)) (row-in 8 65535 wide8 36 i j)) (omega arith) (omega arith) (omega arith) (omega arith) (omega arith) (omega arith)
-    (λ j. bit-in 4 3855 wide4 j) (λ i. key-in (ltb i 4) i) (omega arith) (omega arith) (omega arith)
+    SegmentLaws.every _ (λ i j. cell-in (ltb i 36) (knownOf Pt6312 everything (Segment.cell i j)) (row-in 8 0xFF00 zero8 36 i j)) (omega arith) (omega arith) (omega arith) (omega arith) (omega arith) (omega arith)
+    (λ j. bit-in 4 0x0F00 zero4 j) (λ i. key-in (ltb i 4) i) (omega arith) (omega arith) (omega arith)
 
 character-known : (f : Character.Fact) → characterHas f ≡ true → IsKnown (knownOf Pt6302 everything f)
 character-known =
     CharacterLaws.every _
-    (λ i j e. let t = both (ltb i 16) (ltb j 8) e in row-known 8 65535 wide8 16 i j (ltb-true i 16 (t .0)) (t .1))
-    (λ i j e. let t = both (ltb i 40) (ltb j 7) e in row-known 7 32639 wide7 40 i j (ltb-true i 40 (t .0)) (t .1))
-    (λ i j e. let t = both (ltb i 16) (ltb j 2) e in row-known 2 771 wide2 16 i j (ltb-true i 16 (t .0)) (t .1))
-    (λ e. (_, refl)) (λ e. (_, refl)) (λ e. (_, refl)) (λ e. (_, refl)) (λ j e. bit-known 2 771 wide2 j e) (λ e. (_, refl)) (λ e. (_, refl)) (λ e. (_, refl)) (λ e. (_, refl))
+    (λ i j e. let t = both (ltb i 16) (ltb j 8) e in row-known 8 0xFF00 zero8 16 i j (ltb-true i 16 (t .0)) (t .1))
+    (λ i j e. let t = both (ltb i 40) (ltb j 7) e in row-known 7 0x7F00 zero7 40 i j (ltb-true i 40 (t .0)) (t .1))
+    (λ i j e. let t = both (ltb i 16) (ltb j 2) e in row-known 2 0x0300 zero2 16 i j (ltb-true i 16 (t .0)) (t .1))
+    (λ e. (_, refl)) (λ e. (_, refl)) (λ e. (_, refl)) (λ e. (_, refl)) (λ j e. bit-known 2 0x0300 zero2 j e) (λ e. (_, refl)) (λ e. (_, refl)) (λ e. (_, refl)) (λ e. (_, refl))
 
 character-in : (f : Character.Fact) → Within (Character.range f) (knownOf Pt6302 everything f)
 character-in =
-    CharacterLaws.every _ (row-in 8 65535 wide8 16) (row-in 7 32639 wide7 40) (row-in 2 771 wide2 16) (omega arith) (omega arith) (omega arith) (omega arith)
-    (bit-in 2 771 wide2) (omega arith) (omega arith) (omega arith) (omega arith)
+    CharacterLaws.every _ (row-in 8 0xFF00 zero8 16) (row-in 7 0x7F00 zero7 40) (row-in 2 0x0300 zero2 16) (omega arith) (omega arith) (omega arith) (omega arith)
+    (bit-in 2 0x0300 zero2) (omega arith) (omega arith) (omega arith) (omega arith)
 
 -- It knows everything of each part, and is in range.
 pub everything-known : (p : Part) → KnowsAll p (knownOf p everything) × Sound (range p) (knownOf p everything)

@@ -1,5 +1,7 @@
--- Laws of a code: what two codes have in common, a byte put, a byte that may have been put, number 2. The argument is the same
--- for each: the operation is pushed down to single bits, and there it is sixteen cases or fewer.
+-- Laws of a code: what two codes have in common, a byte put, a byte that may have been put, number 2. The argument: the
+-- operations go into the values and into the marks alike, and so down to single bits, where there are sixteen cases or fewer.
+-- Each code that is put follows from one law, that of a code of which the bits of a width are another's; a byte that may have
+-- been put is what the code and the byte's have in common, put.
 use Prim.Native.Nat.{ℕ, _+_, _*_, _/_, _%_, _^_, _-_, _<_, _≤_, min, max}
 use native.Mathlib.Omega.{arith}
 use native.Mathlib.Nat.{div-eq-of-lt, mod-eq-of-lt, mul-mod-left, lt-of-lt-of-le, lt-of-le-of-lt, div-add-mod'}
@@ -7,13 +9,14 @@ use mathlib.Core.Path.{_≡_, refl, sym, ap, ap₂, _∙_}
 use mathlib.Core.Bool.{Bool, true, false}
 use lib.Dec.{ltb}
 use lib.Pow.{field, shl-shr, mod-mod-pow, shr-lt}
-use lib.Bits.{bitAnd, bitOr, bitXor, differ, or-zero-r, and-shr, or-shr, xor-shr, and-mod, or-mod, xor-mod, xor-lt, and-le-l, and-le-r, and-mask}
+use lib.Bits.{bitAnd, bitOr, bitXor, differ, and-zero-l, or-zero-l, or-zero-r, xor-comm, and-shr, or-shr, xor-shr, and-mod, or-mod, xor-mod, xor-lt, and-le-l, and-le-r, and-mask}
 use borrow.Author.Tests.{ltb-true, ltb-false, lt-ltb, le-ltb}
 use Rattle.rules.specs.Choice.{whether, of4, of5}
-use Rattle.rules.specs.Digit.{digit, digit-small, binary, and-digit, or-digit, xor-digit, digit-none, full-digit, full-high, same-digits}
+use Rattle.rules.specs.Digit.{digit, digit-small, binary, and-digit, or-digit, xor-digit, digit-none, full-digit, full-high, same-digits, putLow, put-low}
 use Rattle.knowing.specs.Standing.{Standing, known, unknown, Within}
 use Rattle.knowing.specs.Know.{join, keptIf}
-use Rattle.lamps.specs.View.{lit, past, shown}
+use Rattle.knowing.specs.Join.{join-swap, join-not}
+use Rattle.lamps.specs.View.{lit, past, shown, Wide, told, met, OfByte}
 
 -- What holds of 0 and of 1 holds of two bits, and of four.
 abbrev Four : (ℕ → ℕ → Type 0) → Type 0
@@ -27,11 +30,11 @@ each4 : (P : ℕ → ℕ → ℕ → ℕ → Type 0) → Four (λ x y. Four (P x
 each4 P h x y z t hx hy hz ht = each2 (P x y) (each2 (λ (a b : ℕ). Four (P a b)) h x y hx hy) z t hz ht
 
 -- Where two codes differ, in either byte: in both.
-abbrev pub spread : ℕ → ℕ
+abbrev spread : ℕ → ℕ
 spread d = bitOr (bitOr d (d * 256 % 65536)) (d / 256)
 
 -- What two codes have in common: the bits in which neither values nor marks differ.
-abbrev pub bothLamps : ℕ → ℕ → ℕ
+abbrev bothLamps : ℕ → ℕ → ℕ
 bothLamps a b = bitXor a (bitAnd a (spread (bitXor a b)))
 
 spread-low : (d : ℕ) → d < 65536 → spread d % 256 ≡ bitOr (d % 256) (d / 256)
@@ -46,12 +49,37 @@ spread-high d h =
     ∙ ap₂ bitOr (or-shr d (d * 256 % 65536) 8 ∙ ap (bitOr (d / 256)) (field (d * 256) 8 8 ∙ ap (λ (x : ℕ). x % 256) (shl-shr d 8))) (div-eq-of-lt (shr-lt 8 8 h))
     ∙ or-zero-r (bitOr (d / 256) (d % 256))
 
--- The bits of what is left of a where e has no bit.
+-- One bit of what is left of a where e has no bit.
 abbrev less : ℕ → ℕ → ℕ
 less x e = differ x (min x e)
 
 less-digit : (k a e : ℕ) → digit k (bitXor a (bitAnd a e)) ≡ less (digit k a) (digit k e)
 less-digit k a e = xor-digit k a (bitAnd a e) ∙ ap (differ (digit k a)) (and-digit k a e)
+
+-- The values of a code, or its marks: the operations go into them.
+record Half (h : ℕ → ℕ) : Type 0 where
+  and : (a b : ℕ) → h (bitAnd a b) ≡ bitAnd (h a) (h b)
+  or : (a b : ℕ) → h (bitOr a b) ≡ bitOr (h a) (h b)
+  xor : (a b : ℕ) → h (bitXor a b) ≡ bitXor (h a) (h b)
+
+values : Half (λ n. n % 256)
+values = record { and = λ a b. and-mod a b 8; or = λ a b. or-mod a b 8; xor = λ a b. xor-mod a b 8 }
+
+marks : Half (λ n. n / 256)
+marks = record { and = λ a b. and-shr a b 8; or = λ a b. or-shr a b 8; xor = λ a b. xor-shr a b 8 }
+
+module _ {h : ℕ → ℕ} (H : Half h) (k : ℕ) where
+  -- One bit of what differs, of what is left of a where e has no bit, and of a number of which the bits of the width are another's.
+  xor-in : (a b : ℕ) → digit k (h (bitXor a b)) ≡ differ (digit k (h a)) (digit k (h b))
+  xor-in a b = ap (digit k) (H .xor a b) ∙ xor-digit k (h a) (h b)
+
+  less-in : (a e : ℕ) → digit k (h (bitXor a (bitAnd a e))) ≡ less (digit k (h a)) (digit k (h e))
+  less-in a e = ap (digit k) (H .xor a (bitAnd a e) ∙ ap (bitXor (h a)) (H .and a e)) ∙ less-digit k (h a) (h e)
+
+  put-in : (w wide a x : ℕ) → h wide ≡ 2 ^ w - 1 → digit k (h (putLow wide a x)) ≡ whether (ltb k w) (digit k (h x)) (digit k (h a))
+  put-in w wide a x e =
+      ap (digit k) (H .or (bitXor a (bitAnd a wide)) (bitAnd x wide) ∙ ap₂ bitOr (H .xor a (bitAnd a wide) ∙ ap (bitXor (h a)) (H .and a wide)) (H .and x wide) ∙ ap (λ (f : ℕ). putLow f (h a) (h x)) e)
+      ∙ put-low w k (h a) (h x)
 
 -- One bit of what two codes have in common.
 abbrev Kept : ℕ → ℕ → ℕ → ℕ → ℕ → Type 0
@@ -67,177 +95,12 @@ unfolding shown
 both-shown w a b k ha hb =
     let d : ℕ = bitXor a b in
     let hd : d < 65536 = xor-lt 16 a b ha hb in
-    let lo : digit k (d % 256) ≡ differ (digit k (a % 256)) (digit k (b % 256)) = ap (digit k) (xor-mod a b 8) ∙ xor-digit k (a % 256) (b % 256) in
-    let hi : digit k (d / 256) ≡ differ (digit k (a / 256)) (digit k (b / 256)) = ap (digit k) (xor-shr a b 8) ∙ xor-digit k (a / 256) (b / 256) in
-    let x : digit k (bothLamps a b % 256) ≡ less (digit k (a % 256)) (max (differ (digit k (a % 256)) (digit k (b % 256))) (differ (digit k (a / 256)) (digit k (b / 256))))
-    = ap (digit k) (xor-mod a (bitAnd a (spread d)) 8 ∙ ap (bitXor (a % 256)) (and-mod a (spread d) 8 ∙ ap (bitAnd (a % 256)) (spread-low d hd)))
-    ∙ less-digit k (a % 256) (bitOr (d % 256) (d / 256)) ∙ ap (less (digit k (a % 256))) (or-digit k (d % 256) (d / 256) ∙ ap₂ max lo hi) in
-    let y : digit k (bothLamps a b / 256) ≡ less (digit k (a / 256)) (max (differ (digit k (a / 256)) (digit k (b / 256))) (differ (digit k (a % 256)) (digit k (b % 256))))
-    = ap (digit k) (xor-shr a (bitAnd a (spread d)) 8 ∙ ap (bitXor (a / 256)) (and-shr a (spread d) 8 ∙ ap (bitAnd (a / 256)) (spread-high d hd)))
-    ∙ less-digit k (a / 256) (bitOr (d / 256) (d % 256)) ∙ ap (less (digit k (a / 256))) (or-digit k (d / 256) (d % 256) ∙ ap₂ max hi lo) in
-    ap₂ (lit (past w k)) x y
+    let lo = xor-in values k a b in
+    let hi = xor-in marks k a b in
+    ap₂ (lit (past w k))
+    (less-in values k a (spread d) ∙ ap (less (digit k (a % 256))) (ap (digit k) (spread-low d hd) ∙ or-digit k (d % 256) (d / 256) ∙ ap₂ max lo hi))
+    (less-in marks k a (spread d) ∙ ap (less (digit k (a / 256))) (ap (digit k) (spread-high d hd) ∙ or-digit k (d / 256) (d % 256) ∙ ap₂ max hi lo))
     ∙ kept (ltb k w) (digit k (a % 256)) (digit k (a / 256)) (digit k (b % 256)) (digit k (b / 256)) (digit-small k _) (digit-small k _) (digit-small k _) (digit-small k _)
-
--- The bits of a width, in both bytes of a code: FFFF for 8, 7F7F for 7, 0F0F for 4, 0303 for 2.
-pub record Wide (w wide : ℕ) : Type 0 where
-  pub low : wide % 256 ≡ 2 ^ w - 1
-  pub high : wide / 256 ≡ 2 ^ w - 1
-  pub byte : w ≤ 8
-  pub fits : wide < 65536
-
-pub wide8 : Wide 8 65535
-wide8 = record { low = refl; high = refl; byte = omega arith; fits = omega arith }
-
-pub wide7 : Wide 7 32639
-wide7 = record { low = refl; high = refl; byte = omega arith; fits = omega arith }
-
-pub wide4 : Wide 4 3855
-wide4 = record { low = refl; high = refl; byte = omega arith; fits = omega arith }
-
-pub wide2 : Wide 2 771
-wide2 = record { low = refl; high = refl; byte = omega arith; fits = omega arith }
-
--- The code of a byte that is known, as far as the width goes.
-abbrev pub codeOf : ℕ → ℕ → ℕ
-codeOf wide b = bitAnd (bitOr 65280 b) wide
-
--- One code made known, and one that a byte may have gone to. Bits past the width stay.
-abbrev pub putCode : ℕ → ℕ → ℕ → ℕ
-putCode wide a c = bitOr (bitXor a (bitAnd a wide)) c
-
-abbrev pub metCode : ℕ → ℕ → ℕ → ℕ
-metCode wide a c = bitOr (bitXor a (bitAnd a wide)) (bitXor c (bitAnd c (spread (bitXor a c))))
-
--- The bits of a width.
-wide-at : (w k : ℕ) → ltb k w ≡ true → digit k (2 ^ w - 1) ≡ 1
-wide-at w k t = full-digit w k (ltb-true k w t)
-
-wide-past : (w k : ℕ) → ltb k w ≡ false → digit k (2 ^ w - 1) ≡ 0
-wide-past w k t = full-high w k (ltb-false k w t)
-
--- One bit of a code that is put or met, by its value x, its mark y, the byte's bit z, the bit o of 255 and the bit f of the width.
-abbrev Put : ℕ → ℕ → ℕ → ℕ → ℕ → ℕ → Standing
-Put h f x y z o = lit h (max (less x f) (min z f)) (max (less y f) (min o f))
-
-abbrev Met : ℕ → ℕ → ℕ → ℕ → ℕ → ℕ → Standing
-Met h f x y z o =
-    lit h (max (less x f) (less (min z f) (max (differ x (min z f)) (differ y (min o f)))))
-    (max (less y f) (less (min o f) (max (differ y (min o f)) (differ x (min z f)))))
-
-put-here : (x y z o : ℕ) → x < 2 → y < 2 → z < 2 → o < 2 → Put 0 1 x y z 1 ≡ known z
-put-here = each4 (λ (x y z o : ℕ). Put 0 1 x y z 1 ≡ known z) ((((refl, refl), (refl, refl)), ((refl, refl), (refl, refl))), (((refl, refl), (refl, refl)), ((refl, refl), (refl, refl))))
-
-put-past : (x y z o : ℕ) → x < 2 → y < 2 → z < 2 → o < 2 → Put 3 0 x y z o ≡ lit 3 x y
-put-past = each4 (λ (x y z o : ℕ). Put 3 0 x y z o ≡ lit 3 x y) ((((refl, refl), (refl, refl)), ((refl, refl), (refl, refl))), (((refl, refl), (refl, refl)), ((refl, refl), (refl, refl))))
-
-met-here : (x y z o : ℕ) → x < 2 → y < 2 → z < 2 → o < 2 → Met 0 1 x y z 1 ≡ join (lit 0 x y) (known z)
-unfolding join keptIf
-met-here = each4 (λ (x y z o : ℕ). Met 0 1 x y z 1 ≡ join (lit 0 x y) (known z)) ((((refl, refl), (refl, refl)), ((refl, refl), (refl, refl))), (((refl, refl), (refl, refl)), ((refl, refl), (refl, refl))))
-
-met-past : (x y z o : ℕ) → x < 2 → y < 2 → z < 2 → o < 2 → Met 3 0 x y z o ≡ lit 3 x y
-met-past = each4 (λ (x y z o : ℕ). Met 3 0 x y z o ≡ lit 3 x y) ((((refl, refl), (refl, refl)), ((refl, refl), (refl, refl))), (((refl, refl), (refl, refl)), ((refl, refl), (refl, refl))))
-
-module _ (w wide b : ℕ) (W : Wide w wide) (hb : b < 256) where
-  low-code : (k : ℕ) → digit k (codeOf wide b % 256) ≡ min (digit k b) (digit k (2 ^ w - 1))
-  low-code k =
-      ap (digit k) (and-mod (bitOr 65280 b) wide 8 ∙ ap₂ bitAnd (or-mod 65280 b 8 ∙ mod-eq-of-lt hb) (W .low))
-      ∙ and-digit k b (2 ^ w - 1)
-
-  high-code : (k : ℕ) → digit k (codeOf wide b / 256) ≡ min (digit k 255) (digit k (2 ^ w - 1))
-  high-code k =
-      ap (digit k) (and-shr (bitOr 65280 b) wide 8 ∙ ap₂ bitAnd (or-shr 65280 b 8 ∙ ap (bitOr 255) (div-eq-of-lt hb)) (W .high))
-      ∙ and-digit k 255 (2 ^ w - 1)
-
-  -- The code of a byte of which every bit of the width is known, and no other.
-  pub code-shown : (k : ℕ) → shown w (codeOf wide b) k ≡ whether (ltb k w) (known (digit k b)) unknown
-  unfolding shown
-  code-shown k = ap₂ (lit (past w k)) (low-code k) (high-code k) ∙ go (ltb k w) refl
-    where
-      go : (t : Bool) → ltb k w ≡ t → lit (whether t 0 3) (min (digit k b) (digit k (2 ^ w - 1))) (min (digit k 255) (digit k (2 ^ w - 1))) ≡ whether t (known (digit k b)) unknown
-      go true t =
-          rw (wide-at w k t, full-digit 8 k (lt-of-lt-of-le (ltb-true k w t) (W .byte)))
-          (binary (λ (n : ℕ). lit 0 (min n 1) 1 ≡ known n) refl refl (digit k b) (digit-small k b))
-      go false t = rw (wide-past w k t) (each2 (λ (x y : ℕ). lit 3 (min x 0) (min y 0) ≡ unknown) ((refl, refl), (refl, refl)) (digit k b) (digit k 255) (digit-small k b) (digit-small k 255))
-
-  module _ (a k : ℕ) (ha : a < 65536) where
-    put-low : digit k (putCode wide a (codeOf wide b) % 256) ≡ max (less (digit k (a % 256)) (digit k (2 ^ w - 1))) (min (digit k b) (digit k (2 ^ w - 1)))
-    put-low =
-        ap (digit k) (or-mod (bitXor a (bitAnd a wide)) (codeOf wide b) 8)
-        ∙ or-digit k (bitXor a (bitAnd a wide) % 256) (codeOf wide b % 256)
-        ∙ ap₂ max (ap (digit k) (xor-mod a (bitAnd a wide) 8 ∙ ap (bitXor (a % 256)) (and-mod a wide 8 ∙ ap (bitAnd (a % 256)) (W .low))) ∙ less-digit k (a % 256) (2 ^ w - 1)) (low-code k)
-
-    put-high : digit k (putCode wide a (codeOf wide b) / 256) ≡ max (less (digit k (a / 256)) (digit k (2 ^ w - 1))) (min (digit k 255) (digit k (2 ^ w - 1)))
-    put-high =
-        ap (digit k) (or-shr (bitXor a (bitAnd a wide)) (codeOf wide b) 8)
-        ∙ or-digit k (bitXor a (bitAnd a wide) / 256) (codeOf wide b / 256)
-        ∙ ap₂ max (ap (digit k) (xor-shr a (bitAnd a wide) 8 ∙ ap (bitXor (a / 256)) (and-shr a wide 8 ∙ ap (bitAnd (a / 256)) (W .high))) ∙ less-digit k (a / 256) (2 ^ w - 1)) (high-code k)
-
-    -- A code that is made known: each bit of the width has the byte's bit, and the others stay.
-    pub put-shown : shown w (putCode wide a (codeOf wide b)) k ≡ whether (ltb k w) (known (digit k b)) (shown w a k)
-    unfolding shown
-    put-shown = ap₂ (lit (past w k)) put-low put-high ∙ go (ltb k w) refl
-      where
-        go : (t : Bool) → ltb k w ≡ t → Put (whether t 0 3) (digit k (2 ^ w - 1)) (digit k (a % 256)) (digit k (a / 256)) (digit k b) (digit k 255)
-            ≡ whether t (known (digit k b)) (lit (whether t 0 3) (digit k (a % 256)) (digit k (a / 256)))
-        go true t =
-            rw (wide-at w k t, full-digit 8 k (lt-of-lt-of-le (ltb-true k w t) (W .byte)))
-            (put-here _ _ _ 0 (digit-small k (a % 256)) (digit-small k (a / 256)) (digit-small k b) (omega arith))
-        go false t = rw (wide-past w k t) (put-past _ _ _ _ (digit-small k (a % 256)) (digit-small k (a / 256)) (digit-small k b) (digit-small k 255))
-
-    apart : ℕ
-    apart = bitXor a (codeOf wide b)
-
-    apart-fits : apart < 65536
-    unfolding apart
-    apart-fits = xor-lt 16 a (codeOf wide b) ha (lt-of-le-of-lt (and-le-r (bitOr 65280 b) wide) (W .fits))
-
-    apart-low : digit k (apart % 256) ≡ differ (digit k (a % 256)) (min (digit k b) (digit k (2 ^ w - 1)))
-    unfolding apart
-    apart-low = ap (digit k) (xor-mod a (codeOf wide b) 8) ∙ xor-digit k (a % 256) (codeOf wide b % 256) ∙ ap (differ (digit k (a % 256))) (low-code k)
-
-    apart-high : digit k (apart / 256) ≡ differ (digit k (a / 256)) (min (digit k 255) (digit k (2 ^ w - 1)))
-    unfolding apart
-    apart-high = ap (digit k) (xor-shr a (codeOf wide b) 8) ∙ xor-digit k (a / 256) (codeOf wide b / 256) ∙ ap (differ (digit k (a / 256))) (high-code k)
-
-    met-low : digit k (metCode wide a (codeOf wide b) % 256)
-        ≡ max (less (digit k (a % 256)) (digit k (2 ^ w - 1)))
-        (less (min (digit k b) (digit k (2 ^ w - 1))) (max (differ (digit k (a % 256)) (min (digit k b) (digit k (2 ^ w - 1)))) (differ (digit k (a / 256)) (min (digit k 255) (digit k (2 ^ w - 1))))))
-    unfolding apart
-    met-low =
-        ap (digit k) (or-mod (bitXor a (bitAnd a wide)) _ 8)
-        ∙ or-digit k _ _
-        ∙ ap₂ max (ap (digit k) (xor-mod a (bitAnd a wide) 8 ∙ ap (bitXor (a % 256)) (and-mod a wide 8 ∙ ap (bitAnd (a % 256)) (W .low))) ∙ less-digit k (a % 256) (2 ^ w - 1))
-        (ap (digit k) (xor-mod (codeOf wide b) (bitAnd (codeOf wide b) (spread apart)) 8
-        ∙ ap (bitXor (codeOf wide b % 256)) (and-mod (codeOf wide b) (spread apart) 8 ∙ ap (bitAnd (codeOf wide b % 256)) (spread-low apart apart-fits)))
-        ∙ less-digit k (codeOf wide b % 256) (bitOr (apart % 256) (apart / 256))
-        ∙ ap₂ less (low-code k) (or-digit k (apart % 256) (apart / 256) ∙ ap₂ max apart-low apart-high))
-
-    met-high : digit k (metCode wide a (codeOf wide b) / 256)
-        ≡ max (less (digit k (a / 256)) (digit k (2 ^ w - 1)))
-        (less (min (digit k 255) (digit k (2 ^ w - 1))) (max (differ (digit k (a / 256)) (min (digit k 255) (digit k (2 ^ w - 1)))) (differ (digit k (a % 256)) (min (digit k b) (digit k (2 ^ w - 1))))))
-    unfolding apart
-    met-high =
-        ap (digit k) (or-shr (bitXor a (bitAnd a wide)) _ 8)
-        ∙ or-digit k _ _
-        ∙ ap₂ max (ap (digit k) (xor-shr a (bitAnd a wide) 8 ∙ ap (bitXor (a / 256)) (and-shr a wide 8 ∙ ap (bitAnd (a / 256)) (W .high))) ∙ less-digit k (a / 256) (2 ^ w - 1))
-        (ap (digit k) (xor-shr (codeOf wide b) (bitAnd (codeOf wide b) (spread apart)) 8
-        ∙ ap (bitXor (codeOf wide b / 256)) (and-shr (codeOf wide b) (spread apart) 8 ∙ ap (bitAnd (codeOf wide b / 256)) (spread-high apart apart-fits)))
-        ∙ less-digit k (codeOf wide b / 256) (bitOr (apart / 256) (apart % 256))
-        ∙ ap₂ less (high-code k) (or-digit k (apart / 256) (apart % 256) ∙ ap₂ max apart-high apart-low))
-
-    -- A code that the byte may have gone to: each bit of the width has in common with the byte's bit what it had, and the others stay.
-    pub met-shown : shown w (metCode wide a (codeOf wide b)) k ≡ whether (ltb k w) (join (shown w a k) (known (digit k b))) (shown w a k)
-    unfolding shown
-    met-shown =
-        ap₂ (lit (past w k)) met-low met-high
-        ∙ go (ltb k w) refl
-      where
-        go : (t : Bool) → ltb k w ≡ t → Met (whether t 0 3) (digit k (2 ^ w - 1)) (digit k (a % 256)) (digit k (a / 256)) (digit k b) (digit k 255)
-            ≡ whether t (join (lit (whether t 0 3) (digit k (a % 256)) (digit k (a / 256))) (known (digit k b))) (lit (whether t 0 3) (digit k (a % 256)) (digit k (a / 256)))
-        go true t =
-            rw (wide-at w k t, full-digit 8 k (lt-of-lt-of-le (ltb-true k w t) (W .byte)))
-            (met-here _ _ _ 0 (digit-small k (a % 256)) (digit-small k (a / 256)) (digit-small k b) (omega arith))
-        go false t = rw (wide-past w k t) (met-past _ _ _ _ (digit-small k (a % 256)) (digit-small k (a / 256)) (digit-small k b) (digit-small k 255))
 
 -- The value and the mark of a bit, read back from what it says.
 abbrev valueOf : Standing → ℕ
@@ -286,8 +149,96 @@ one-code w a b h =
     (same-digits (a % 256) (b % 256) (λ k. sym (value-back (ltb k w) (digit k (a % 256)) (digit k (a / 256)) (digit-small k _) (digit-small k _)) ∙ ap valueOf (h k) ∙ value-back (ltb k w) (digit k (b % 256)) (digit k (b / 256)) (digit-small k _) (digit-small k _)))
     ∙ div-add-mod' b 256
 
+pub wide8 : Wide 8 65535
+wide8 = record { low = refl; high = refl; byte = omega arith }
+
+pub wide7 : Wide 7 32639
+wide7 = record { low = refl; high = refl; byte = omega arith }
+
+pub wide4 : Wide 4 3855
+wide4 = record { low = refl; high = refl; byte = omega arith }
+
+pub wide2 : Wide 2 771
+wide2 = record { low = refl; high = refl; byte = omega arith }
+
+-- No bit of the code 0 is known.
+pub none-shown : (w k : ℕ) → shown w 0 k ≡ unknown
+unfolding shown
+none-shown w k = rw (digit-none k) refl
+
+-- A code put over the bits of a width of another.
+abbrev putCode : ℕ → ℕ → ℕ → ℕ
+putCode wide a c = bitOr (bitXor a (bitAnd a wide)) c
+
+module _ (w wide : ℕ) (W : Wide w wide) where
+  -- A code of which the bits of the width are another's.
+  mixed-shown : (a x k : ℕ) → shown w (putLow wide a x) k ≡ whether (ltb k w) (shown w x k) (shown w a k)
+  unfolding shown
+  mixed-shown a x k = ap₂ (lit (past w k)) (put-in values k w wide a x (W .low)) (put-in marks k w wide a x (W .high)) ∙ go (ltb k w)
+    where
+      go : (t : Bool) → lit (whether t 0 3) (whether t (digit k (x % 256)) (digit k (a % 256))) (whether t (digit k (x / 256)) (digit k (a / 256)))
+          ≡ whether t (lit (whether t 0 3) (digit k (x % 256)) (digit k (x / 256))) (lit (whether t 0 3) (digit k (a % 256)) (digit k (a / 256)))
+      go true = refl
+      go false = refl
+
+  -- The bits of the width alone: the code 0 of which they are another's.
+  cut-shown : (x k : ℕ) → shown w (bitAnd x wide) k ≡ whether (ltb k w) (shown w x k) unknown
+  cut-shown x k =
+      ap (λ (n : ℕ). shown w n k) (sym (or-zero-l (bitAnd x wide)) ∙ ap (λ (n : ℕ). putCode n 0 (bitAnd x wide)) (sym (and-zero-l wide)))
+      ∙ mixed-shown 0 x k ∙ ap (whether (ltb k w) (shown w x k)) (none-shown w k)
+
+  -- A code that has no bit past the width, put: cut to the width it is the same.
+  put-shown : (a c : ℕ) → ((k : ℕ) → ltb k w ≡ false → shown w c k ≡ unknown) → (k : ℕ) → shown w (putCode wide a c) k ≡ whether (ltb k w) (shown w c k) (shown w a k)
+  put-shown a c h k = ap (λ (n : ℕ). shown w (putCode wide a n) k) (one-code w c (bitAnd c wide) (λ j. go j (ltb j w) refl ∙ sym (cut-shown c j))) ∙ mixed-shown a c k
+    where
+      go : (j : ℕ) (t : Bool) → ltb j w ≡ t → shown w c j ≡ whether t (shown w c j) unknown
+      go j true t = refl
+      go j false t = h j t
+
+  -- The code of a byte.
+  pub code-shown : (b : ℕ) → b < 256 → OfByte w b (bitAnd (bitOr 65280 b) wide)
+  unfolding shown
+  code-shown b hb k = cut-shown (bitOr 65280 b) k ∙ go (ltb k w) refl
+    where
+      go : (t : Bool) → ltb k w ≡ t → whether t (lit (whether t 0 3) (digit k (bitOr 65280 b % 256)) (digit k (bitOr 65280 b / 256))) unknown ≡ whether t (known (digit k b)) unknown
+      go true t =
+          rw (or-mod 65280 b 8 ∙ mod-eq-of-lt hb, or-shr 65280 b 8 ∙ ap (bitOr 255) (div-eq-of-lt hb), full-digit 8 k (lt-of-lt-of-le (ltb-true k w t) (W .byte)))
+          (binary (λ (n : ℕ). lit 0 n 1 ≡ known n) refl refl (digit k b) (digit-small k b))
+      go false t = refl
+
+  module _ (b c : ℕ) (o : OfByte w b c) where
+    none-past : (k : ℕ) → ltb k w ≡ false → shown w c k ≡ unknown
+    none-past k t = o k ∙ rw t refl
+
+    -- The byte put.
+    pub byte-put : (a k : ℕ) → shown w (putCode wide a c) k ≡ told w b k (shown w a k)
+    byte-put a k = put-shown a c none-past k ∙ ap (λ (s : Standing). whether (ltb k w) s (shown w a k)) (o k) ∙ go (ltb k w)
+      where
+        go : (t : Bool) → whether t (whether t (known (digit k b)) unknown) (shown w a k) ≡ whether t (known (digit k b)) (shown w a k)
+        go true = refl
+        go false = refl
+
+    -- The byte that may have been put: what it has in common with the code, put.
+    pub byte-met : (a k : ℕ) → a < 65536 → c < 65536 → shown w (putCode wide a (bitXor c (bitAnd c (spread (bitXor a c))))) k ≡ met w b k (shown w a k)
+    byte-met a k ha hc =
+        ap (λ (d : ℕ). shown w (putCode wide a (bitXor c (bitAnd c (spread d)))) k) (xor-comm a c)
+        ∙ put-shown a (bothLamps c a) (λ j t. both-shown w c a j hc ha ∙ sym (join-not (shown w c j) (shown w a j) (none-past j t))) k
+        ∙ ap (λ (s : Standing). whether (ltb k w) s (shown w a k)) (both-shown w c a k hc ha ∙ ap (λ (s : Standing). join s (shown w a k)) (o k))
+        ∙ go (ltb k w)
+      where
+        go : (t : Bool) → whether t (join (whether t (known (digit k b)) unknown) (shown w a k)) (shown w a k) ≡ whether t (join (shown w a k) (known (digit k b))) (shown w a k)
+        go true = join-swap (known (digit k b)) (shown w a k)
+        go false = refl
+
+-- The bits of a width.
+wide-at : (w k : ℕ) → ltb k w ≡ true → digit k (2 ^ w - 1) ≡ 1
+wide-at w k t = full-digit w k (ltb-true k w t)
+
+wide-past : (w k : ℕ) → ltb k w ≡ false → digit k (2 ^ w - 1) ≡ 0
+wide-past w k t = full-high w k (ltb-false k w t)
+
 -- Number 2 of a code: the bits past the width, and the values of bits that are not marked.
-abbrev pub wrongBits : ℕ → ℕ → ℕ
+abbrev wrongBits : ℕ → ℕ → ℕ
 wrongBits wide a = bitOr (bitXor a (bitAnd a wide)) (bitXor (bitAnd a 255) (bitAnd (bitAnd a 255) (a / 256)))
 
 abbrev Right : ℕ → ℕ → ℕ → ℕ → Type 0
@@ -320,13 +271,13 @@ module _ (w wide a : ℕ) (W : Wide w wide) (ha : a < 65536) where
       ap (digit k) (or-mod (bitXor a (bitAnd a wide)) _ 8)
       ∙ or-digit k _ _
       ∙ ap₂ max
-      (ap (digit k) (xor-mod a (bitAnd a wide) 8 ∙ ap (bitXor (a % 256)) (and-mod a wide 8 ∙ ap (bitAnd (a % 256)) (W .low))) ∙ less-digit k (a % 256) (2 ^ w - 1))
+      (less-in values k a wide ∙ ap (λ (n : ℕ). less (digit k (a % 256)) (digit k n)) (W .low))
       (ap (digit k) (mod-eq-of-lt small ∙ ap (λ (x : ℕ). bitXor x (bitAnd x (a / 256))) (and-mask a 8)) ∙ less-digit k (a % 256) (a / 256))
 
   wrong-high : (k : ℕ) → digit k (wrongBits wide a / 256) ≡ less (digit k (a / 256)) (digit k (2 ^ w - 1))
   wrong-high k =
       ap (digit k) (or-shr (bitXor a (bitAnd a wide)) _ 8 ∙ ap (bitOr (bitXor a (bitAnd a wide) / 256)) (div-eq-of-lt small) ∙ or-zero-r (bitXor a (bitAnd a wide) / 256))
-      ∙ ap (digit k) (xor-shr a (bitAnd a wide) 8 ∙ ap (bitXor (a / 256)) (and-shr a wide 8 ∙ ap (bitAnd (a / 256)) (W .high))) ∙ less-digit k (a / 256) (2 ^ w - 1)
+      ∙ less-in marks k a wide ∙ ap (λ (n : ℕ). less (digit k (a / 256)) (digit k n)) (W .high)
 
   -- A code has no wrong bit exactly where each of its bits is known to be 0 or 1, or unknown.
   pub sound-code : wrongBits wide a ≡ 0 → (k : ℕ) → Within 2 (shown w a k)

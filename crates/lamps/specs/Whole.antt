@@ -15,8 +15,8 @@ use Rattle.rules.specs.Digit.{digit, digit-small, digit-high, digit-below, full
 use Rattle.knowing.specs.Standing.{Standing, known, unknown, Within}
 use Rattle.knowing.specs.Holds.{holds, byteIn}
 use Rattle.knowing.specs.Bytes.{Spells, holds-tests, spelt-in, in-spelt}
-use Rattle.lamps.specs.View.{shown}
-use Rattle.lamps.specs.Lamp.{wide8, codeOf, code-shown, one-code, known-marked, marked-known, past-empty}
+use Rattle.lamps.specs.View.{shown, told, OfByte}
+use Rattle.lamps.specs.Lamp.{one-code, known-marked, marked-known, past-empty}
 
 -- A code has no bit past its bytes.
 shown-past : (w n k : ℕ) → n < 65536 → 8 ≤ k → shown w n k ≡ unknown
@@ -24,18 +24,18 @@ unfolding shown
 shown-past w n k h l = rw (digit-high 8 k (n % 256) (mod-lt n (omega arith)) l, digit-high 8 k (n / 256) (shr-lt 8 8 h) l) refl
 
 -- A code is that of a byte exactly where the cell is known to hold it.
-pub holds-code : (n b : ℕ) → n < 65536 → b < 256 → eqb n (codeOf 65535 b) ≡ holds 8 (shown 8 n) b
-holds-code n b h small = one-test (record { so = to; back = from }) (holds-tests 8 (shown 8 n) b)
+pub holds-code : (n b c : ℕ) → n < 65536 → OfByte 8 b c → eqb n c ≡ holds 8 (shown 8 n) b
+holds-code n b c h o = one-test (record { so = to; back = from }) (holds-tests 8 (shown 8 n) b)
   where
-    to : eqb n (codeOf 65535 b) ≡ true → Spells 8 (shown 8 n) b
-    to e k l = ap (λ (x : ℕ). shown 8 x k) (eqb-true n (codeOf 65535 b) e) ∙ code-shown 8 65535 b wide8 small k ∙ rw (lt-ltb k 8 l) refl
+    to : eqb n c ≡ true → Spells 8 (shown 8 n) b
+    to e k l = ap (λ (x : ℕ). shown 8 x k) (eqb-true n c e) ∙ o k ∙ rw (lt-ltb k 8 l) refl
 
-    from : Spells 8 (shown 8 n) b → eqb n (codeOf 65535 b) ≡ true
-    from s = eq-eqb n (codeOf 65535 b) (one-code 8 n (codeOf 65535 b) (λ k. at k (decLt k 8)))
+    from : Spells 8 (shown 8 n) b → eqb n c ≡ true
+    from s = eq-eqb n c (one-code 8 n c (λ k. at k (decLt k 8) ∙ sym (o k)))
       where
-        at : (k : ℕ) → Dec (k < 8) → shown 8 n k ≡ shown 8 (codeOf 65535 b) k
-        at k (yes l) = s k l ∙ sym (code-shown 8 65535 b wide8 small k ∙ rw (lt-ltb k 8 l) refl)
-        at k (no l) = shown-past 8 n k h (omega arith) ∙ sym (code-shown 8 65535 b wide8 small k ∙ rw (le-ltb k 8 (omega arith)) refl)
+        at : (k : ℕ) → Dec (k < 8) → shown 8 n k ≡ told 8 b k unknown
+        at k (yes l) = s k l ∙ rw (lt-ltb k 8 l) refl
+        at k (no l) = shown-past 8 n k h (omega arith) ∙ rw (le-ltb k 8 (omega arith)) refl
 
 -- The byte that a code is of, where all marks of the width are set.
 abbrev pub whole : ℕ → ℕ → Standing

@@ -1,12 +1,11 @@
 // One code.
 ghost use mathlib.Core.Path.{_≡_};
-ghost use Prim.Native.Nat.{ℕ, _<_};
+ghost use Prim.Native.Nat.{ℕ};
 ghost use Rattle.rules.specs.Tests.{Tests};
 ghost use Rattle.knowing.specs.Standing.{Within};
 ghost use Rattle.knowing.specs.Know.{join};
 ghost use Rattle.knowing.specs.Holds.{holds};
-ghost use Rattle.lamps.specs.View.{shown};
-ghost use Rattle.lamps.specs.Lamp.{Wide, codeOf, putCode, metCode};
+ghost use Rattle.lamps.specs.View.{shown, Wide, told, OfByte, Puts, Meets};
 
 // The bits of a width, in both bytes of a code: of a cell, a column, the LED, and a pair or the port.
 pub const EIGHT: u16 = 0xFFFF;
@@ -28,20 +27,20 @@ pub fn both_lamps(a: u16, b: u16) -> u16
 
 // The code of a byte of which every bit of the width is known.
 pub fn code_of(wide: u16, byte: u8) -> u16
-    ensures { λ r. ⌜ r ≡ codeOf wide byte ⌝ }
+    ensures { λ r. ⌜ ((w : ℕ) → Wide w wide → OfByte w byte r) ⌝ }
 {
     (0xFF00 | (byte as u16)) & wide
 }
 
 // A code with every bit of the width known to be that of a byte.
 pub fn put_byte(wide: u16, code: u16, byte: u8) -> u16
-    ensures { λ r. ⌜ (r ≡ putCode wide code (codeOf wide byte)) × ((code < 65536) × (byte < 256)) ⌝ }
+    ensures { λ r. ⌜ Puts wide byte code r ⌝ }
 {
     put_code(wide, code, code_of(wide, byte))
 }
 
 fn put_code(wide: u16, code: u16, c: u16) -> u16
-    ensures { λ r. ⌜ r ≡ putCode wide code c ⌝ }
+    ensures { λ r. ⌜ ((w b : ℕ) → Wide w wide → OfByte w b c → (k : ℕ) → shown w r k ≡ told w b k (shown w code k)) ⌝ }
 {
     (code ^ (code & wide)) | c
 }
@@ -49,7 +48,7 @@ fn put_code(wide: u16, code: u16, c: u16) -> u16
 // A code where the byte of the code `c` may have gone: a known bit that differs from the byte's is forgotten, and one that does not is the byte's. A loop
 // of this is what a byte at an unknown address costs, so it is written in as few steps as there can be.
 pub fn meet_code(wide: u16, code: u16, c: u16) -> u16
-    ensures { λ r. ⌜ r ≡ metCode wide code c ⌝ }
+    ensures { λ r. ⌜ Meets wide c code r ⌝ }
 {
     let d = code ^ c;
     let e = d | (d << 8) | (d >> 8);

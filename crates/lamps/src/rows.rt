@@ -3,7 +3,7 @@ use crate::code::lamps_sound;
 ghost use Prim.Native.Nat.{ℕ, _≤_};
 ghost use lib.ListN.{length};
 ghost use Rattle.rules.specs.Tests.{Tests};
-ghost use Rattle.lamps.specs.Lamp.{Wide};
+ghost use Rattle.lamps.specs.View.{Wide};
 ghost use Rattle.lamps.specs.Row.{LampsSound};
 
 // Number 2 of the first `count` codes.

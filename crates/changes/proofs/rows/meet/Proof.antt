@@ -3,20 +3,19 @@ use borrow.Author.Needs.{scaled-fits}
 use Prim.Native.Nat.{_≤_, _-_}
 use mathlib.Core.Path.{_≡_, sym}
 use native.Mathlib.Omega.{arith}
-use Prim.Native.Nat.{ℕ}
-use Rattle.lamps.specs.Lamp.{metCode}
-use Rattle.lamps.specs.Row.{Met, met-none, met-more}
+use Rattle.changes.specs.Change.{Met}
+use Rattle.changes.specs.Together.{met-none, met-more}
 use Rattle.changes.proofs.rows.meet.Statement.{statement}
 use Rattle.changes.proofs.rows.meet.Tie as tie
 
 abbrev Inv-loop : tie.InvT-loop
-Inv-loop codes₀ wide from by count c i₀ codes i = (i ≤ count) × Met (λ (a : ℕ). metCode wide a c) codes₀ from by i codes
+Inv-loop codes₀ wide from by count c i₀ codes i = (i ≤ count) × Met wide c codes₀ from by i codes
 
 abbrev μ-loop : tie.MeasureT-loop
 μ-loop codes₀ wide from by count c i₀ codes i = count - i
 
 loop-holds : tie.Need-loop-holds Inv-loop μ-loop
-loop-holds c = (omega arith, met-none _ _ _ _)
+loop-holds c = (omega arith, met-none _ _ _ _ _)
 
 mul-at : tie.Need-mul-at Inv-loop μ-loop
 mul-at c = record { fits = omega (arith, c .before .before .before .pre .1 (c .before .loop .i) (c .loop-test .taken), c .before .before .before .good .0 .0) }
@@ -48,7 +47,7 @@ loop-less c = omega arith
 loop-again : tie.Need-loop-again Inv-loop μ-loop
 loop-again c = let a = c .before .before .before .before .before .args in
     let l = c .before .before .before .loop in
-    (omega arith, met-more _ (a .codes .now) (l .codes) (a .from) (a .by) (l .i) _ (c .before .before .before .before .before .pre .0) (l .inv .1) (slice-write-codes c) (c .meet-code .ensures))
+    (omega arith, met-more _ _ (a .codes .now) (l .codes) (a .from) (a .by) (l .i) _ (c .before .before .before .before .before .pre .0) (l .inv .1) (slice-write-codes c) (c .meet-code .ensures))
 
 same-length : tie.Need-same-length Inv-loop μ-loop
 same-length c = c .before .loop .inv .1 .size

@@ -3,11 +3,8 @@ use Prim.Native.Nat.{ℕ, _+_, _*_, _<_}
 use native.Mathlib.Omega.{arith}
 use mathlib.Core.Path.{subst, subst⁻¹}
 use lib.ListN.{length}
-use Rattle.lamps.specs.Lamp.{metCode}
-use Rattle.lamps.specs.Row.{Met}
 use Rattle.changes.specs.Change.{Changes}
 use Rattle.changes.specs.declared.change.Change.the-variants.{Meet}
-use Rattle.changes.specs.Together.{met-seen}
 use borrow.Author.Needs.{needs}
 use Rattle.changes.proofs.rows.meet_all.Statement.{statement}
 use Rattle.changes.proofs.rows.meet_all.Tie as tie
@@ -35,19 +32,15 @@ returns c = λ w W.
     let s = o .before .before .before in
     let a = s .args in
     subst⁻¹ (λ (n : ℕ). Changes w (Meet (a .from) n (a .count) (a .byte)) (a .codes .now) (c .before .before .meet-run .last .0)) (c .before .before .before .before .if1 .taken)
-    (λ i k. met-seen w (a .wide) (a .codes .now) (c .before .before .meet-run .last .0) (a .from .0) 1 (a .byte) (a .count) i k W (s .fits .byte .fits) (λ j. o .before .before .slice-known .given j .fits)
-    (subst (λ (b : ℕ). Met (λ (x : ℕ). metCode (a .wide) x b) (a .codes .now) (a .from .0) 1 (a .count) (c .before .before .meet-run .last .0)) (o .code-of .ensures) (c .before .before .meet-run .ensures)))
+    (c .before .before .meet-run .ensures .shows w (a .byte) W (o .code-of .ensures w W))
 
 same-length-2 : tie.Need-same-length-2
 same-length-2 c = search needs
 
 returns-2 : tie.Need-returns-2
-returns-2 c = λ w W i k.
+returns-2 c = λ w W.
     let o = c .before .before .before .before .before in
-    let s = o .before .before .before in
-    let a = s .args in
-    met-seen w (a .wide) (a .codes .now) (c .before .before .meet .last .0) (a .from .0) (a .by) (a .byte) (a .count) i k W (s .fits .byte .fits) (λ j. o .before .before .slice-known .given j .fits)
-    (subst (λ (b : ℕ). Met (λ (x : ℕ). metCode (a .wide) x b) (a .codes .now) (a .from .0) (a .by) (a .count) (c .before .before .meet .last .0)) (o .code-of .ensures) (c .before .before .meet .ensures))
+    c .before .before .meet .ensures .shows w (o .before .before .before .args .byte) W (o .code-of .ensures w W)
 
 pub meet-all-spec : {M : Type 1} → statement M
 meet-all-spec =

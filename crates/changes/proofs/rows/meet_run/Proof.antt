@@ -2,21 +2,20 @@
 use Prim.Native.Nat.{_≤_, _-_}
 use mathlib.Core.Path.{_≡_, sym}
 use native.Mathlib.Omega.{arith}
-use Prim.Native.Nat.{ℕ}
-use Rattle.lamps.specs.Lamp.{metCode}
 use borrow.Author.Needs.{scaled-fits}
-use Rattle.lamps.specs.Row.{Met, met-none, met-run}
+use Rattle.changes.specs.Change.{Met}
+use Rattle.changes.specs.Together.{met-none, met-run}
 use Rattle.changes.proofs.rows.meet_run.Statement.{statement}
 use Rattle.changes.proofs.rows.meet_run.Tie as tie
 
 abbrev Inv-loop : tie.InvT-loop
-Inv-loop codes₀ wide from count c i₀ codes i = (i ≤ count) × Met (λ (a : ℕ). metCode wide a c) codes₀ from 1 i codes
+Inv-loop codes₀ wide from count c i₀ codes i = (i ≤ count) × Met wide c codes₀ from 1 i codes
 
 abbrev μ-loop : tie.MeasureT-loop
 μ-loop codes₀ wide from count c i₀ codes i = count - i
 
 loop-holds : tie.Need-loop-holds Inv-loop μ-loop
-loop-holds c = (omega arith, met-none _ _ _ _)
+loop-holds c = (omega arith, met-none _ _ _ _ _)
 
 add-at : tie.Need-add-at Inv-loop μ-loop
 add-at c = record { fits = omega (arith, c .before .before .before .pre (c .before .loop .i) (c .loop-test .taken), c .before .before .before .good .0 .0) }
@@ -44,7 +43,7 @@ loop-less c = omega arith
 
 loop-again : tie.Need-loop-again Inv-loop μ-loop
 loop-again c = let l = c .before .before .before .loop in
-    (omega arith, met-run _ (c .before .before .before .before .before .args .codes .now) (l .codes) (c .before .before .before .before .before .args .from) (l .i) _ (l .inv .1) (slice-write-codes c) (c .meet-code .ensures))
+    (omega arith, met-run _ _ (c .before .before .before .before .before .args .codes .now) (l .codes) (c .before .before .before .before .before .args .from) (l .i) _ (l .inv .1) (slice-write-codes c) (c .meet-code .ensures))
 
 same-length : tie.Need-same-length Inv-loop μ-loop
 same-length c = c .before .loop .inv .1 .size

@@ -1,9 +1,6 @@
 -- `changes::rows::put` meets its contract: the code at the place has the byte put, and the others are as they were. Assumes nothing.
-use Prim.Native.Nat.{ℕ}
-use mathlib.Core.Path.{ap, _∙_}
-use lib.ListN.{set}
-use Rattle.lamps.specs.View.{held}
-use Rattle.changes.specs.Together.{put-seen}
+use Rattle.lamps.specs.View.{told}
+use Rattle.changes.specs.Together.{set-seen}
 use borrow.Author.Needs.{needs}
 use Rattle.changes.proofs.rows.put.Statement.{statement}
 use Rattle.changes.proofs.rows.put.Tie as tie
@@ -30,11 +27,10 @@ same-length : tie.Need-same-length
 same-length c = search needs
 
 returns : tie.Need-returns
-returns c = λ w W i k.
+returns c = λ w W.
     let s = c .before .before .before .before in
     let a = s .args in
-    ap (λ (x : ℕ). held w (set (a .codes .now) (a .cell .0) x) i k) (c .put-byte .ensures .0)
-    ∙ put-seen w (a .wide) (a .byte) (a .codes .now) (a .cell .0) i k W (s .fits .byte .fits) (λ j. c .before .before .before .slice-known .given j .fits) (s .pre)
+    set-seen w (told w (a .byte)) (a .codes .now) (a .cell .0) _ (s .pre) (c .put-byte .ensures w W)
 
 pub put-spec : {M : Type 1} → statement M
 put-spec =

@@ -1,6 +1,6 @@
 -- `character_knowledge::control::no_control` meets its contract: no single fact is known.
 -- Assumes nothing.
-use Rattle.lamps.specs.Row.{none-shown}
+use Rattle.lamps.specs.Lamp.{none-shown}
 use Rattle.character.specs.Laws.{every}
 use mathlib.Core.Path.{refl}
 use Rattle.character_knowledge.proofs.control.no_control.Statement.{statement}

@@ -1,5 +1,5 @@
 -- `lamps::rows::all_sound` meets its contract: the codes passed are all within, and the first that is not ends the walk. Assumes nothing.
-use Rattle.lamps.specs.Lamp.{Wide}
+use Rattle.lamps.specs.View.{Wide}
 use Rattle.lamps.specs.Row.{LampsSound, lamps-more, lamps-beyond}
 use borrow.Author.Tests.{not-true, not-false}
 use borrow.Author.Needs.{needs}

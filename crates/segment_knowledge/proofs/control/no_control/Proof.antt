@@ -4,7 +4,7 @@ use mathlib.Core.Path.{refl, ap}
 use Rattle.segment.specs.Laws.{every}
 use Rattle.key_codes.specs.View.{coded}
 use Rattle.rules.specs.Unique.{getD-same}
-use Rattle.lamps.specs.Row.{none-shown}
+use Rattle.lamps.specs.Lamp.{none-shown}
 use Rattle.segment_knowledge.proofs.control.no_control.Statement.{statement}
 use Rattle.segment_knowledge.proofs.control.no_control.Tie as tie
 

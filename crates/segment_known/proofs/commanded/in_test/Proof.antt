@@ -2,7 +2,7 @@
 -- Assumes nothing.
 use mathlib.Core.Path.{refl}
 use Rattle.segment.specs.Laws.{every, led-tested}
-use Rattle.lamps.specs.Row.{none-shown}
+use Rattle.lamps.specs.Lamp.{none-shown}
 use Rattle.segment_known.proofs.commanded.in_test.Statement.{statement}
 use Rattle.segment_known.proofs.commanded.in_test.Tie as tie
 

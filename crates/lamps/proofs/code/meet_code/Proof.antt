@@ -1,0 +1,10 @@
+-- `lamps::code::meet_code` meets its contract: the law `byte-met`, of numbers of two bytes. Assumes nothing.
+use Rattle.lamps.specs.Lamp.{byte-met}
+use Rattle.lamps.proofs.code.meet_code.Statement.{statement}
+use Rattle.lamps.proofs.code.meet_code.Tie as tie
+
+returns : tie.Need-returns
+returns c = λ w b W o k. byte-met w (c .args .wide) W b (c .args .c) o (c .args .code) k (c .fits .code .fits) (c .fits .c .fits)
+
+pub meet-code-spec : {M : Type 1} → statement M
+meet-code-spec = tie.close (tie.spec returns)
