@@ -2,7 +2,7 @@
 -- operations go into the values and into the marks alike, and so down to single bits, where there are sixteen cases or fewer.
 -- Each code that is put follows from one law, that of a code of which the bits of a width are another's; a byte that may have
 -- been put is what the code and the byte's have in common, put.
-use Prim.Native.Nat.{ℕ, _+_, _*_, _/_, _%_, _^_, _-_, _<_, _≤_, min, max}
+use Prim.Native.Nat.{ℕ, _+_, _*_, _/_, _%_, _^_, _-_, _<_, _≤_, max}
 use native.Mathlib.Omega.{arith}
 use native.Mathlib.Nat.{div-eq-of-lt, mod-eq-of-lt, mul-mod-left, lt-of-lt-of-le, lt-of-le-of-lt, div-add-mod'}
 use mathlib.Core.Path.{_≡_, refl, sym, ap, ap₂, _∙_}
@@ -12,20 +12,13 @@ use lib.Pow.{field, shl-shr, mod-mod-pow, shr-lt}
 use lib.Bits.{bitAnd, bitOr, bitXor, differ, and-zero-l, or-zero-l, or-zero-r, xor-comm, and-shr, or-shr, xor-shr, and-mod, or-mod, xor-mod, xor-lt, and-le-l, and-le-r, and-mask}
 use borrow.Author.Tests.{ltb-true, ltb-false, lt-ltb, le-ltb}
 use Rattle.rules.specs.Choice.{whether, of4, of5}
-use Rattle.rules.specs.Digit.{digit, digit-small, binary, and-digit, or-digit, xor-digit, digit-none, full-digit, full-high, same-digits, putLow, put-low}
+use Rattle.rules.specs.Digit.{digit, digit-small, binary, Four, each2, or-digit, xor-digit, less, less-digit, digit-none, full-digit, full-high, same-digits, putLow, put-low}
 use Rattle.knowing.specs.Standing.{Standing, known, unknown, Within}
 use Rattle.knowing.specs.Know.{join, keptIf}
 use Rattle.knowing.specs.Join.{join-swap, join-not}
 use Rattle.lamps.specs.View.{lit, past, shown, Wide, told, met, OfByte}
 
--- What holds of 0 and of 1 holds of two bits, and of four.
-abbrev Four : (ℕ → ℕ → Type 0) → Type 0
-Four Q = (Q 0 0 × Q 0 1) × (Q 1 0 × Q 1 1)
-
-each2 : (Q : ℕ → ℕ → Type 0) → Four Q → (x y : ℕ) → x < 2 → y < 2 → Q x y
-each2 Q h x y hx hy =
-    binary (λ (a : ℕ). Q a y) (binary (λ (b : ℕ). Q 0 b) (h .0 .0) (h .0 .1) y hy) (binary (λ (b : ℕ). Q 1 b) (h .1 .0) (h .1 .1) y hy) x hx
-
+-- What holds of 0 and of 1 holds of four bits.
 each4 : (P : ℕ → ℕ → ℕ → ℕ → Type 0) → Four (λ x y. Four (P x y)) → (x y z t : ℕ) → x < 2 → y < 2 → z < 2 → t < 2 → P x y z t
 each4 P h x y z t hx hy hz ht = each2 (P x y) (each2 (λ (a b : ℕ). Four (P a b)) h x y hx hy) z t hz ht
 
@@ -48,13 +41,6 @@ spread-high d h =
     or-shr (bitOr d (d * 256 % 65536)) (d / 256) 8
     ∙ ap₂ bitOr (or-shr d (d * 256 % 65536) 8 ∙ ap (bitOr (d / 256)) (field (d * 256) 8 8 ∙ ap (λ (x : ℕ). x % 256) (shl-shr d 8))) (div-eq-of-lt (shr-lt 8 8 h))
     ∙ or-zero-r (bitOr (d / 256) (d % 256))
-
--- One bit of what is left of a where e has no bit.
-abbrev less : ℕ → ℕ → ℕ
-less x e = differ x (min x e)
-
-less-digit : (k a e : ℕ) → digit k (bitXor a (bitAnd a e)) ≡ less (digit k a) (digit k e)
-less-digit k a e = xor-digit k a (bitAnd a e) ∙ ap (differ (digit k a)) (and-digit k a e)
 
 -- The values of a code, or its marks: the operations go into them.
 record Half (h : ℕ → ℕ) : Type 0 where
@@ -111,20 +97,25 @@ abbrev markOf : Standing → ℕ
 markOf (known v) = of4 1 1 0 1 v
 markOf unknown = 0
 
-value-back : (t : Bool) (x y : ℕ) → x < 2 → y < 2 → valueOf (lit (whether t 0 3) x y) ≡ x
-value-back true = each2 (λ (x y : ℕ). valueOf (lit 0 x y) ≡ x) ((refl, refl), (refl, refl))
-value-back false = each2 (λ (x y : ℕ). valueOf (lit 3 x y) ≡ x) ((refl, refl), (refl, refl))
+value-back : (w n k : ℕ) → valueOf (shown w n k) ≡ digit k (n % 256)
+unfolding shown
+value-back w n k = go (ltb k w) (digit k (n % 256)) (digit k (n / 256)) (digit-small k _) (digit-small k _)
+  where
+    go : (t : Bool) (x y : ℕ) → x < 2 → y < 2 → valueOf (lit (whether t 0 3) x y) ≡ x
+    go true = each2 (λ (x y : ℕ). valueOf (lit 0 x y) ≡ x) ((refl, refl), (refl, refl))
+    go false = each2 (λ (x y : ℕ). valueOf (lit 3 x y) ≡ x) ((refl, refl), (refl, refl))
 
-mark-back : (t : Bool) (x y : ℕ) → x < 2 → y < 2 → markOf (lit (whether t 0 3) x y) ≡ y
-mark-back true = each2 (λ (x y : ℕ). markOf (lit 0 x y) ≡ y) ((refl, refl), (refl, refl))
-mark-back false = each2 (λ (x y : ℕ). markOf (lit 3 x y) ≡ y) ((refl, refl), (refl, refl))
+mark-back : (w n k : ℕ) → markOf (shown w n k) ≡ digit k (n / 256)
+unfolding shown
+mark-back w n k = go (ltb k w) (digit k (n % 256)) (digit k (n / 256)) (digit-small k _) (digit-small k _)
+  where
+    go : (t : Bool) (x y : ℕ) → x < 2 → y < 2 → markOf (lit (whether t 0 3) x y) ≡ y
+    go true = each2 (λ (x y : ℕ). markOf (lit 0 x y) ≡ y) ((refl, refl), (refl, refl))
+    go false = each2 (λ (x y : ℕ). markOf (lit 3 x y) ≡ y) ((refl, refl), (refl, refl))
 
 -- A bit that is known has a mark.
 pub known-marked : (w n k v : ℕ) → v < 2 → shown w n k ≡ known v → digit k (n / 256) ≡ 1
-unfolding shown
-known-marked w n k v h e =
-    sym (mark-back (ltb k w) (digit k (n % 256)) (digit k (n / 256)) (digit-small k _) (digit-small k _)) ∙ ap markOf e
-    ∙ binary (λ (x : ℕ). _≡_ {A = ℕ} (of4 1 1 0 1 x) 1) refl refl v h
+known-marked w n k v h e = sym (mark-back w n k) ∙ ap markOf e ∙ binary (λ (x : ℕ). _≡_ {A = ℕ} (of4 1 1 0 1 x) 1) refl refl v h
 
 -- And what is marked is known.
 pub marked-known : (w n k : ℕ) → k < w → digit k (n / 256) ≡ 1 → shown w n k ≡ known (digit k (n % 256))
@@ -139,15 +130,14 @@ past-empty w n k h s =
     each2 (λ (x y : ℕ). Within 2 (lit 3 x y) → (x ≡ 0) × (y ≡ 0)) ((λ _. (refl, refl), λ h. absurd (omega arith)), (λ h. absurd (omega arith), λ h. absurd (omega arith)))
     (digit k (n % 256)) (digit k (n / 256)) (digit-small k _) (digit-small k _) (rw (le-ltb k w h) at s)
 
+-- Codes with the same marks and the same values are equal.
+same-halves : (a b : ℕ) → ((k : ℕ) → digit k (a / 256) ≡ digit k (b / 256)) → ((k : ℕ) → digit k (a % 256) ≡ digit k (b % 256)) → a ≡ b
+same-halves a b m v = sym (div-add-mod' a 256) ∙ ap₂ (λ (q r : ℕ). q * 256 + r) (same-digits (a / 256) (b / 256) m) (same-digits (a % 256) (b % 256) v) ∙ div-add-mod' b 256
+
 -- One code for each standing of its bits: codes that say the same are equal.
 pub one-code : (w a b : ℕ) → ((k : ℕ) → shown w a k ≡ shown w b k) → a ≡ b
-unfolding shown
 one-code w a b h =
-    sym (div-add-mod' a 256)
-    ∙ ap₂ (λ (q r : ℕ). q * 256 + r)
-    (same-digits (a / 256) (b / 256) (λ k. sym (mark-back (ltb k w) (digit k (a % 256)) (digit k (a / 256)) (digit-small k _) (digit-small k _)) ∙ ap markOf (h k) ∙ mark-back (ltb k w) (digit k (b % 256)) (digit k (b / 256)) (digit-small k _) (digit-small k _)))
-    (same-digits (a % 256) (b % 256) (λ k. sym (value-back (ltb k w) (digit k (a % 256)) (digit k (a / 256)) (digit-small k _) (digit-small k _)) ∙ ap valueOf (h k) ∙ value-back (ltb k w) (digit k (b % 256)) (digit k (b / 256)) (digit-small k _) (digit-small k _)))
-    ∙ div-add-mod' b 256
+    same-halves a b (λ k. sym (mark-back w a k) ∙ ap markOf (h k) ∙ mark-back w b k) (λ k. sym (value-back w a k) ∙ ap valueOf (h k) ∙ value-back w b k)
 
 pub wide8 : Wide 8 65535
 wide8 = record { low = refl; high = refl; byte = omega arith }
@@ -292,10 +282,7 @@ module _ (w wide a : ℕ) (W : Wide w wide) (ha : a < 65536) where
   pub code-sound : ((k : ℕ) → Within 2 (shown w a k)) → wrongBits wide a ≡ 0
   unfolding shown
   code-sound h =
-      sym (div-add-mod' (wrongBits wide a) 256)
-      ∙ ap₂ (λ (q r : ℕ). q * 256 + r)
-      (same-digits _ 0 (λ k. wrong-high k ∙ go k (ltb k w) refl (h k) .1 ∙ sym (digit-none k)))
-      (same-digits _ 0 (λ k. wrong-low k ∙ go k (ltb k w) refl (h k) .0 ∙ sym (digit-none k)))
+      same-halves (wrongBits wide a) 0 (λ k. wrong-high k ∙ go k (ltb k w) refl (h k) .1 ∙ sym (digit-none k)) (λ k. wrong-low k ∙ go k (ltb k w) refl (h k) .0 ∙ sym (digit-none k))
     where
       go : (k : ℕ) (t : Bool) → ltb k w ≡ t → Within 2 (lit (whether t 0 3) (digit k (a % 256)) (digit k (a / 256)))
           → (max (less (digit k (a % 256)) (digit k (2 ^ w - 1))) (less (digit k (a % 256)) (digit k (a / 256))) ≡ 0) × (less (digit k (a / 256)) (digit k (2 ^ w - 1)) ≡ 0)

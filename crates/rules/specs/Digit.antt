@@ -34,15 +34,23 @@ binary P a b zero h = a
 binary P a b (suc zero) h = b
 binary P a b (suc (suc n)) h = absurd (omega arith)
 
+-- And so are two.
+abbrev pub Four : (ℕ → ℕ → Type 0) → Type 0
+Four Q = (Q 0 0 × Q 0 1) × (Q 1 0 × Q 1 1)
+
+pub each2 : (Q : ℕ → ℕ → Type 0) → Four Q → (x y : ℕ) → x < 2 → y < 2 → Q x y
+each2 Q h x y hx hy =
+    binary (λ (a : ℕ). Q a y) (binary (λ (b : ℕ). Q 0 b) (h .0 .0) (h .0 .1) y hy) (binary (λ (b : ℕ). Q 1 b) (h .1 .0) (h .1 .1) y hy) x hx
+
 -- The operations on one bit.
 of-and : (a b : ℕ) → a < 2 → b < 2 → bitAnd a b ≡ min a b
-of-and a b ha hb = binary (λ (x : ℕ). bitAnd x b ≡ min x b) (binary (λ (y : ℕ). bitAnd 0 y ≡ min 0 y) refl refl b hb) (binary (λ (y : ℕ). bitAnd 1 y ≡ min 1 y) refl refl b hb) a ha
+of-and = each2 (λ (x y : ℕ). bitAnd x y ≡ min x y) ((refl, refl), (refl, refl))
 
 of-or : (a b : ℕ) → a < 2 → b < 2 → bitOr a b ≡ max a b
-of-or a b ha hb = binary (λ (x : ℕ). bitOr x b ≡ max x b) (binary (λ (y : ℕ). bitOr 0 y ≡ max 0 y) refl refl b hb) (binary (λ (y : ℕ). bitOr 1 y ≡ max 1 y) refl refl b hb) a ha
+of-or = each2 (λ (x y : ℕ). bitOr x y ≡ max x y) ((refl, refl), (refl, refl))
 
 of-xor : (a b : ℕ) → a < 2 → b < 2 → bitXor a b ≡ differ a b
-of-xor a b ha hb = binary (λ (x : ℕ). bitXor x b ≡ differ x b) (binary (λ (y : ℕ). bitXor 0 y ≡ differ 0 y) refl refl b hb) (binary (λ (y : ℕ). bitXor 1 y ≡ differ 1 y) refl refl b hb) a ha
+of-xor = each2 (λ (x y : ℕ). bitXor x y ≡ differ x y) ((refl, refl), (refl, refl))
 
 pub and-digit : (k a b : ℕ) → digit k (bitAnd a b) ≡ min (digit k a) (digit k b)
 unfolding digit
@@ -55,6 +63,13 @@ or-digit k a b = ap (λ (x : ℕ). x % 2) (or-shr a b k) ∙ or-mod (a / 2 ^ k) 
 pub xor-digit : (k a b : ℕ) → digit k (bitXor a b) ≡ differ (digit k a) (digit k b)
 unfolding digit
 xor-digit k a b = ap (λ (x : ℕ). x % 2) (xor-shr a b k) ∙ xor-mod (a / 2 ^ k) (b / 2 ^ k) 1 ∙ of-xor _ _ (digit-small k a) (digit-small k b)
+
+-- One bit of what is left of a where e has no bit.
+abbrev pub less : ℕ → ℕ → ℕ
+less x e = differ x (min x e)
+
+pub less-digit : (k a e : ℕ) → digit k (bitXor a (bitAnd a e)) ≡ less (digit k a) (digit k e)
+less-digit k a e = xor-digit k a (bitAnd a e) ∙ ap (differ (digit k a)) (and-digit k a e)
 
 -- A number below 2 ^ n has no bit from n on.
 pub digit-high : (n k b : ℕ) → b < 2 ^ n → n ≤ k → digit k b ≡ 0
@@ -127,18 +142,12 @@ putLow full a b = bitOr (bitXor a (bitAnd a full)) (bitAnd b full)
 pub put-low : (w k a b : ℕ) → digit k (putLow (2 ^ w - 1) a b) ≡ whether (ltb k w) (digit k b) (digit k a)
 put-low w k a b =
     or-digit k (bitXor a (bitAnd a (2 ^ w - 1))) (bitAnd b (2 ^ w - 1))
-    ∙ ap₂ max (xor-digit k a (bitAnd a (2 ^ w - 1)) ∙ ap (differ (digit k a)) (and-digit k a (2 ^ w - 1))) (and-digit k b (2 ^ w - 1))
+    ∙ ap₂ max (less-digit k a (2 ^ w - 1)) (and-digit k b (2 ^ w - 1))
     ∙ go (ltb k w) refl
   where
-    here : (x y : ℕ) → x < 2 → y < 2 → max (differ x (min x 1)) (min y 1) ≡ y
-    here x y hx hy = binary (λ (a : ℕ). max (differ a (min a 1)) (min y 1) ≡ y) (binary (λ (c : ℕ). max (differ 0 (min 0 1)) (min c 1) ≡ c) refl refl y hy) (binary (λ (c : ℕ). max (differ 1 (min 1 1)) (min c 1) ≡ c) refl refl y hy) x hx
-
-    past : (x y : ℕ) → x < 2 → y < 2 → max (differ x (min x 0)) (min y 0) ≡ x
-    past x y hx hy = binary (λ (a : ℕ). max (differ a (min a 0)) (min y 0) ≡ a) (binary (λ (c : ℕ). max (differ 0 (min 0 0)) (min c 0) ≡ 0) refl refl y hy) (binary (λ (c : ℕ). max (differ 1 (min 1 0)) (min c 0) ≡ 1) refl refl y hy) x hx
-
-    go : (t : Bool) → ltb k w ≡ t → max (differ (digit k a) (min (digit k a) (digit k (2 ^ w - 1)))) (min (digit k b) (digit k (2 ^ w - 1))) ≡ whether t (digit k b) (digit k a)
-    go true t = rw (full-digit w k (ltb-true k w t)) (here (digit k a) (digit k b) (digit-small k a) (digit-small k b))
-    go false t = rw (full-high w k (ltb-false k w t)) (past (digit k a) (digit k b) (digit-small k a) (digit-small k b))
+    go : (t : Bool) → ltb k w ≡ t → max (less (digit k a) (digit k (2 ^ w - 1))) (min (digit k b) (digit k (2 ^ w - 1))) ≡ whether t (digit k b) (digit k a)
+    go true t = rw (full-digit w k (ltb-true k w t)) (each2 (λ (x y : ℕ). max (less x 1) (min y 1) ≡ y) ((refl, refl), (refl, refl)) (digit k a) (digit k b) (digit-small k a) (digit-small k b))
+    go false t = rw (full-high w k (ltb-false k w t)) (each2 (λ (x y : ℕ). max (less x 0) (min y 0) ≡ x) ((refl, refl), (refl, refl)) (digit k a) (digit k b) (digit-small k a) (digit-small k b))
 
 -- Bytes with the same eight bits are equal.
 pub same-byte : (a b : ℕ) → a < 256 → b < 256 → ((k : ℕ) → k < 8 → digit k a ≡ digit k b) → a ≡ b
