@@ -1,3 +1,4 @@
 pub mod Memory
 pub mod Lengths
 pub mod Known
+pub mod Printed

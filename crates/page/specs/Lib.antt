@@ -1,3 +1,4 @@
 pub mod Page
 pub mod Lengths
 pub mod Laws
+pub mod Known
