@@ -1,4 +1,4 @@
-// The recording: one record at its front, as an event, or why it is none.
+// The recording: what its records are, what a record is read as, and what a body and a part allow. The reading itself, as code, is the crate `reading`.
 mod bodies;
 mod ending;
 mod kinds;
@@ -13,4 +13,3 @@ pub use kinds::has_keys;
 pub use kinds::has_switches;
 pub use read::Read;
 pub use read::Refusal;
-pub use read::record_at;

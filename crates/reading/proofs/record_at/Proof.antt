@@ -1,12 +1,12 @@
--- `recording::read::record_at` meets its contract: the kinds one by one, and of each what its own tests leave.
+-- `reading::record_at` meets its contract: the kinds one by one, and of each what its own tests leave.
 -- Assumes nothing.
 use native.Mathlib.Omega.{arith}
 use mathlib.Core.Path.{refl, sym, _∙_}
 use lib.Seq.{getD-drop}
 use borrow.Author.Needs.{needs}
 use Rattle.recording.specs.Laws.{at-unlisted, at-foreign, at-cut, at-common, at-own, not-listed}
-use Rattle.recording.proofs.read.record_at.Statement.{statement}
-use Rattle.recording.proofs.read.record_at.Tie as tie
+use Rattle.reading.proofs.record_at.Statement.{statement}
+use Rattle.reading.proofs.record_at.Tie as tie
 
 shared-slice-read-kind : tie.Need-shared-slice-read-kind
 shared-slice-read-kind c = search needs
