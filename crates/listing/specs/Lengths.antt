@@ -7,8 +7,9 @@ use mathlib.Core.List.{List, [], _∷_, _++_}
 use lib.Dec.{eqb}
 use lib.ListN.{length, take, drop, length-append, length-take, length-drop}
 use Rattle.rules.specs.Choice.{whether-all}
-use Rattle.text.specs.declared.rows.Names.the-variants.{Addresses, Characters}
-use Rattle.text.specs.Text.{newline, shown, values, line, lines, named}
+use Rattle.text.specs.Text.{newline, shown}
+use Rattle.lines.specs.declared.rows.Names.the-variants.{Addresses, Characters}
+use Rattle.lines.specs.Lines.{values, line, lines, named}
 use Rattle.listing.specs.Memory.{cellMarks, columnMarks, pairMarks, digits, characters, rams}
 
 shown-length : (full c : ℕ) → length (shown full c) ≡ 2

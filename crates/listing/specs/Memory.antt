@@ -6,8 +6,8 @@ use Rattle.terms.specs.declared.Part.the-variants.{Pt6302, Pt6312, Pt6315}
 use Rattle.terms.specs.declared.PartRead.{PartRead}
 use Rattle.terms.specs.declared.PartRead.the-variants.{Is, Refused}
 use Rattle.panel.specs.declared.knowledge.Panel.{Panel}
-use Rattle.text.specs.declared.rows.Names.the-variants.{Addresses, Characters}
-use Rattle.text.specs.Text.{line, lines, named}
+use Rattle.lines.specs.declared.rows.Names.the-variants.{Addresses, Characters}
+use Rattle.lines.specs.Lines.{line, lines, named}
 
 -- The marks of a cell of which every bit is known: eight bits, seven of a column, two of a pair.
 abbrev pub cellMarks : ℕ

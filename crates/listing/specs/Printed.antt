@@ -26,8 +26,9 @@ use Rattle.segment_knowledge.specs.Unique as OfSegment
 use Rattle.panel.specs.declared.knowledge.Panel.{Panel}
 use Rattle.panel.specs.View.{knownOf}
 use Rattle.panel.specs.Unique.{Shaped}
-use Rattle.text.specs.declared.rows.Names.the-variants.{Addresses, Characters}
-use Rattle.text.specs.Text.{newline, shown, values, line, lines, named}
+use Rattle.lines.specs.declared.rows.Names.the-variants.{Addresses, Characters}
+use Rattle.text.specs.Text.{newline, shown}
+use Rattle.lines.specs.Lines.{values, line, lines, named}
 use Rattle.listing.specs.Memory.{cellMarks, columnMarks, pairMarks, digits, memory}
 use Rattle.listing.specs.Known.{printed, cell-prints, text-prints, column-prints, pair-prints}
 

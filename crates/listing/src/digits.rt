@@ -1,11 +1,11 @@
 // The memory that is known of a panel, line by line.
+use lines::Names;
+use lines::line;
+use lines::lines;
 use panel::Panel;
 use terms::Part;
 use terms::PartRead;
 use terms::part_of;
-use text::Names;
-use text::line;
-use text::lines;
 ghost use Prim.Native.Nat.{_*_, _≤_};
 ghost use lib.ListN.{length};
 ghost use Rattle.terms.specs.Part.{partOf};

@@ -1,12 +1,9 @@
--- How the program writes numbers and lines (paper 01, the last paragraph of "Examples"). Text is a list of ASCII codes.
-use Prim.Native.Nat.{ℕ, _*_, zero, suc, _+_, _-_, _/_, _%_}
+-- How the program writes numbers and what is known of a cell (paper 01, the last paragraph of "Examples"). Text is a list of ASCII codes.
+use Prim.Native.Nat.{ℕ, zero, suc, _+_, _-_, _/_, _%_}
 use Prim.Native.Char.{code}
 use mathlib.Core.List.{List, [], _∷_, _++_}
 use lib.Dec.{eqb, ltb}
-use lib.ListN.{take, drop}
 use Rattle.rules.specs.Choice.{whether}
-use Rattle.text.specs.declared.rows.Names.{Names}
-use Rattle.text.specs.declared.rows.Names.the-variants.{Addresses, Characters}
 
 -- "Every line ends in 0AH."
 abbrev pub newline : ℕ
@@ -33,22 +30,3 @@ decimal n = decimalIn 20 n
 -- values: where all marks are set, that value; "a cell with any bit unknown prints as ??" (M-107). `full` has all marks.
 abbrev pub shown : ℕ → ℕ → List ℕ
 shown full c = whether (eqb (c / 256) full) (hex (c % 256)) (code "?" ∷ code "?" ∷ [])
-
--- Values, a space in front of each.
-abbrev pub values : ℕ → List ℕ → List ℕ
-values full [] = []
-values full (c ∷ cs) = (code " " ∷ shown full c) ++ values full cs
-
--- A name, a colon, and the values.
-abbrev pub line : ℕ → List ℕ → List ℕ → List ℕ
-line full name cs = name ++ ((code ":" ∷ []) ++ (values full cs ++ (newline ∷ [])))
-
--- n lines of `width` values each, from line number i on, each with its name.
-abbrev pub lines : ℕ → (ℕ → List ℕ) → ℕ → ℕ → ℕ → List ℕ → List ℕ
-lines full name width zero i cs = []
-lines full name width (suc n) i cs = line full (name i) (take width cs) ++ lines full name width n (suc i) (drop width cs)
-
--- The name of line number i of `width` values: the address of its first cell, or the number of its character.
-abbrev pub named : Names → ℕ → ℕ → List ℕ
-named Addresses width i = hex (i * width)
-named Characters width i = code "G" ∷ digit i ∷ []

@@ -1,8 +1,6 @@
-// Text for people: numbers, and lines of what is known of cells.
+// Numbers and cells as text for people.
 mod numbers;
-mod rows;
 
 pub use numbers::decimal;
-pub use rows::Names;
-pub use rows::line;
-pub use rows::lines;
+pub use numbers::digit;
+pub use numbers::shown;

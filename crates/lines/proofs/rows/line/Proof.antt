@@ -1,9 +1,9 @@
--- `text::rows::line` meets its contract: the name, the colon, the values and the end stand one behind the other.
+-- `lines::rows::line` meets its contract: the name, the colon, the values and the end stand one behind the other.
 -- Assumes nothing.
 use Rattle.writing.specs.Laws.{writes-then}
 use borrow.Author.Needs.{needs}
-use Rattle.text.proofs.rows.line.Statement.{statement}
-use Rattle.text.proofs.rows.line.Tie as tie
+use Rattle.lines.proofs.rows.line.Statement.{statement}
+use Rattle.lines.proofs.rows.line.Tie as tie
 
 words-requires : tie.Need-words-requires
 words-requires c κs = search needs

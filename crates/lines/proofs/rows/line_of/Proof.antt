@@ -1,11 +1,11 @@
--- `text::rows::line_of` meets its contract: the name is that of line i, and the part of the codes that is lent has as many as the line is wide.
+-- `lines::rows::line_of` meets its contract: the name is that of line i, and the part of the codes that is lent has as many as the line is wide.
 -- Assumes nothing.
 use Prim.Native.Nat.{_+_, _*_, _-_}
 use native.Mathlib.Omega.{arith}
 use mathlib.Core.Path.{_≡_}
 use borrow.Author.Needs.{needs}
-use Rattle.text.proofs.rows.line_of.Statement.{statement}
-use Rattle.text.proofs.rows.line_of.Tie as tie
+use Rattle.lines.proofs.rows.line_of.Statement.{statement}
+use Rattle.lines.proofs.rows.line_of.Tie as tie
 
 name-of-requires : tie.Need-name-of-requires
 name-of-requires c κs = search needs

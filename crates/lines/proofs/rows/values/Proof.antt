@@ -1,4 +1,4 @@
--- `text::rows::values` meets its contract. The invariant: the values of the codes that are left are all that remains to be written.
+-- `lines::rows::values` meets its contract. The invariant: the values of the codes that are left are all that remains to be written.
 -- Assumes nothing.
 use Prim.Native.Nat.{ℕ, _≤_, _-_}
 use Prim.Native.Char.{code}
@@ -7,10 +7,11 @@ use mathlib.Core.Path.{refl}
 use mathlib.Core.List.{_∷_}
 use lib.ListN.{length, drop}
 use Rattle.writing.specs.Laws.{Remains, row-less, row-done, writes-then, writes-length}
-use Rattle.text.specs.Text.{shown, values}
+use Rattle.text.specs.Text.{shown}
+use Rattle.lines.specs.Lines.{values}
 use borrow.Author.Needs.{needs}
-use Rattle.text.proofs.rows.values.Statement.{statement}
-use Rattle.text.proofs.rows.values.Tie as tie
+use Rattle.lines.proofs.rows.values.Statement.{statement}
+use Rattle.lines.proofs.rows.values.Tie as tie
 
 abbrev Inv-loop : tie.InvT-loop
 Inv-loop out₀ at full codes to₀ i₀ out to i = (i ≤ length codes) × Remains out₀ at (values full codes) out to (values full (drop i codes))

@@ -9,7 +9,7 @@ use lib.ListN.{take, drop}
 use lib.Seq.{drop-drop}
 use Rattle.writing.specs.Writes.{Writes}
 use Rattle.writing.specs.Laws.{Remains, remains-less}
-use Rattle.text.specs.Text.{line, lines}
+use Rattle.lines.specs.Lines.{line, lines}
 
 -- A line that is one of n ends within what n lines have.
 pub line-end : (width n i : ℕ) → i < n → i * width + width ≤ width * n

@@ -1,18 +1,18 @@
 // Lines of values: a name, a colon, and what is known of each cell. `full` has the marks of a cell of which every bit is known.
-use crate::numbers::digit;
-use crate::numbers::shown;
+use text::digit;
+use text::shown;
 use writing::put;
 use writing::words;
 ghost use mathlib.Core.Path.{_≡_};
 ghost use Prim.Native.Nat.{_+_, _*_, _<_, _≤_};
 ghost use lib.ListN.{length, take, drop};
 ghost use Rattle.writing.specs.Writes.{Writes};
-ghost use Rattle.text.specs.Text.{values as Text·values, line as Text·line, lines as Text·lines};
-ghost use Rattle.text.specs.Text.{named};
+ghost use Rattle.lines.specs.Lines.{values as Lines·values, line as Lines·line, lines as Lines·lines};
+ghost use Rattle.lines.specs.Lines.{named};
 
 // Values, a space in front of each.
 fn values(out: &mut [u8], at: usize, full: u8, codes: &[u16]) -> usize
-    ensures { λ r. ⌜ Writes (now (out .entry)) at (Text·values full (now (codes .entry))) r (now (out .exit)) ⌝ }
+    ensures { λ r. ⌜ Writes (now (out .entry)) at (Lines·values full (now (codes .entry))) r (now (out .exit)) ⌝ }
 {
     let mut to = at;
     let mut i = 0;
@@ -25,7 +25,7 @@ fn values(out: &mut [u8], at: usize, full: u8, codes: &[u16]) -> usize
 }
 
 pub fn line(out: &mut [u8], at: usize, full: u8, name: &[u8], codes: &[u16]) -> usize
-    ensures { λ r. ⌜ Writes (now (out .entry)) at (Text·line full (now (name .entry)) (now (codes .entry))) r (now (out .exit)) ⌝ }
+    ensures { λ r. ⌜ Writes (now (out .entry)) at (Lines·line full (now (name .entry)) (now (codes .entry))) r (now (out .exit)) ⌝ }
 {
     let named = words(out, at, name);
     let begun = put(out, named, b':');
@@ -63,7 +63,7 @@ fn line_of(
     codes: &[u16],
 ) -> usize
     requires { ⌜ (i < 16) × ((i * width + width ≤ length (now codes)) × (i * width ≤ 255)) ⌝ }
-    ensures { λ r. ⌜ Writes (now (out .entry)) at (Text·line full (named names width i) (take width (drop (i * width) (now (codes .entry))))) r (now (out .exit)) ⌝ }
+    ensures { λ r. ⌜ Writes (now (out .entry)) at (Lines·line full (named names width i) (take width (drop (i * width) (now (codes .entry))))) r (now (out .exit)) ⌝ }
 {
     let name = name_of(names, width, i);
     let from = (i * width) as usize;
@@ -82,7 +82,7 @@ pub fn lines(
     codes: &[u16],
 ) -> usize
     requires { ⌜ (width * n ≤ length (now codes)) × ((width * n ≤ 255) × (n ≤ 16)) ⌝ }
-    ensures { λ r. ⌜ Writes (now (out .entry)) at (Text·lines full (named names width) width n 0 (now (codes .entry))) r (now (out .exit)) ⌝ }
+    ensures { λ r. ⌜ Writes (now (out .entry)) at (Lines·lines full (named names width) width n 0 (now (codes .entry))) r (now (out .exit)) ⌝ }
 {
     let mut to = at;
     let mut i = 0;

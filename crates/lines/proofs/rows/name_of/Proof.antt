@@ -1,9 +1,9 @@
--- `text::rows::name_of` meets its contract: each arm names as the definition does.
+-- `lines::rows::name_of` meets its contract: each arm names as the definition does.
 -- Assumes nothing.
 use mathlib.Core.Path.{refl}
 use borrow.Author.Needs.{needs}
-use Rattle.text.proofs.rows.name_of.Statement.{statement}
-use Rattle.text.proofs.rows.name_of.Tie as tie
+use Rattle.lines.proofs.rows.name_of.Statement.{statement}
+use Rattle.lines.proofs.rows.name_of.Tie as tie
 
 enum-told : tie.Need-enum-told
 enum-told c = search needs

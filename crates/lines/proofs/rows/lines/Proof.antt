@@ -1,14 +1,13 @@
--- `text::rows::lines` meets its contract. The invariant: the lines from number i on are all that remains to be written.
+-- `lines::rows::lines` meets its contract. The invariant: the lines from number i on are all that remains to be written.
 -- Assumes nothing.
 use Prim.Native.Nat.{_-_, _≤_}
 use native.Mathlib.Omega.{arith}
 use Rattle.writing.specs.Laws.{Remains, remains-none, writes-length}
-use Rattle.text.specs.Text.{lines}
-use Rattle.text.specs.Text.{named}
-use Rattle.text.specs.Lines.{line-end, linesFrom, lines-all, lines-less, lines-none}
+use Rattle.lines.specs.Lines.{lines, named}
+use Rattle.lines.specs.Laws.{line-end, linesFrom, lines-all, lines-less, lines-none}
 use borrow.Author.Needs.{needs}
-use Rattle.text.proofs.rows.lines.Statement.{statement}
-use Rattle.text.proofs.rows.lines.Tie as tie
+use Rattle.lines.proofs.rows.lines.Statement.{statement}
+use Rattle.lines.proofs.rows.lines.Tie as tie
 
 abbrev Inv-loop : tie.InvT-loop
 Inv-loop out₀ at full names width n codes to₀ i₀ out to i = (i ≤ n) × Remains out₀ at (lines full (named names width) width n 0 codes) out to (linesFrom full (named names width) width n codes i)
