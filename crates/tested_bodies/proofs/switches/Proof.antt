@@ -1,12 +1,12 @@
--- `reading::switches` meets its contract: test by test, as the definition has them.
+-- `tested_bodies::switches` meets its contract: test by test, as the definition has them.
 -- Assumes nothing.
 use native.Mathlib.Omega.{arith}
 use mathlib.Core.Path.{refl, sym, _∙_}
 use borrow.Author.Tests.{not-true, not-false}
 use borrow.Author.Needs.{needs}
 use Rattle.recording.specs.Laws.{at-foreign, at-cut, at-switches}
-use Rattle.reading.proofs.switches.Statement.{statement}
-use Rattle.reading.proofs.switches.Tie as tie
+use Rattle.tested_bodies.proofs.switches.Statement.{statement}
+use Rattle.tested_bodies.proofs.switches.Tie as tie
 
 has-switches-requires : tie.Need-has-switches-requires
 has-switches-requires c κs = search needs

@@ -1,11 +1,11 @@
--- `reading::unfinished` meets its contract: test by test, as the definition has them.
+-- `tested_bodies::unfinished` meets its contract: test by test, as the definition has them.
 -- Assumes nothing.
 use native.Mathlib.Omega.{arith}
 use mathlib.Core.Path.{refl, sym, _∙_}
 use borrow.Author.Needs.{needs}
 use Rattle.recording.specs.Laws.{at-cut, at-bits}
-use Rattle.reading.proofs.unfinished.Statement.{statement}
-use Rattle.reading.proofs.unfinished.Tie as tie
+use Rattle.tested_bodies.proofs.unfinished.Statement.{statement}
+use Rattle.tested_bodies.proofs.unfinished.Tie as tie
 
 sub-if1 : tie.Need-sub-if1
 sub-if1 c = search needs

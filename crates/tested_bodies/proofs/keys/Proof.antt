@@ -1,12 +1,12 @@
--- `reading::keys` meets its contract: test by test, as the definition has them.
+-- `tested_bodies::keys` meets its contract: test by test, as the definition has them.
 -- Assumes nothing.
 use native.Mathlib.Omega.{arith}
 use mathlib.Core.Path.{refl, sym, _∙_}
 use borrow.Author.Tests.{not-true, not-false}
 use borrow.Author.Needs.{needs}
 use Rattle.recording.specs.Laws.{at-foreign, at-cut, at-keys}
-use Rattle.reading.proofs.keys.Statement.{statement}
-use Rattle.reading.proofs.keys.Tie as tie
+use Rattle.tested_bodies.proofs.keys.Statement.{statement}
+use Rattle.tested_bodies.proofs.keys.Tie as tie
 
 has-keys-requires : tie.Need-has-keys-requires
 has-keys-requires c κs = search needs
