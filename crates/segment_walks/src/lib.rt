@@ -2,9 +2,9 @@
 use changes::put;
 use lamps::EIGHT;
 use pointing::place_of;
-use reading::record_at;
 use recording::Ending;
 use recording::Read;
+use records::record_at;
 use segment::Family;
 use segment_knowledge::Control;
 use segment_knowledge::Knowledge;

@@ -2,8 +2,8 @@
 use answers::Answer;
 use answers::refused;
 use pointing::place_of;
-use reading::record_at;
 use recording::Read;
+use records::record_at;
 use tail_starts::behind;
 use terms::Part;
 use terms::Place;
