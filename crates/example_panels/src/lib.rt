@@ -13,4 +13,5 @@ mod tells;
 
 pub use example::Example;
 pub use known::show_known;
+pub use memory::front;
 pub use telling::told;

@@ -1,7 +1,6 @@
 // What a word says of PT6312 or PT6315.
-use crate::tells::code_told;
 use crate::tells::lamps_tell;
-use crate::tells::lamps_told;
+use crate::tells::row_told;
 use crate::tells::tells;
 use example_text::Word;
 use segment_knowledge::Control;
@@ -15,21 +14,17 @@ pub fn told_segments(k: Knowledge, word: Word) -> Knowledge {
     if word.name == b'n' {
         return nothing_known();
     }
-    let old = k.cells;
-    let cells = cells_told(old, word);
-    Knowledge {
-        cells,
-        control: control_told(k.control, word),
-    }
-}
-
-fn cells_told(cells: [u16; 36], word: Word) -> [u16; 36] {
+    let control = control_told(k.control, word);
+    let code = word.lamps(0xFF);
     if word.name == b'e' {
-        return [word.lamps(0xFF); 36];
+        return Knowledge {
+            cells: [code; 36],
+            control,
+        };
     }
-    let mut new = cells;
-    lamps_told(&mut new, 0xFF, b'c', word);
-    new
+    let mut cells = k.cells;
+    row_told(&mut cells, b'c', word, code);
+    Knowledge { cells, control }
 }
 
 fn control_told(c: Control, word: Word) -> Control {
@@ -41,7 +36,7 @@ fn control_told(c: Control, word: Word) -> Control {
     let display = c.display;
     let led = c.led;
     let mut keys = c.keys;
-    code_told(&mut keys, b'k', word);
+    row_told(&mut keys, b'k', word, word.code());
     let switches = c.switches;
     let count = c.count;
     let position = c.position;

@@ -33,13 +33,14 @@ impl Line {
         }
     }
 
-    // The line with one more character and the word before it, which counts where it ends and is a byte.
-    pub fn with(mut self, word: Word, c: u8) -> Line {
+    // The line with one more word, which counts where it is a byte.
+    pub fn with(mut self, word: Word) -> Line {
         self.whole = false;
-        if word.ends(c) && word.name == b'0' {
-            return self.with_byte(word.byte());
+        if word.name == b'0' {
+            self.with_byte(word.byte())
+        } else {
+            self
         }
-        self
     }
 
     // The line with one more byte.
