@@ -2,4 +2,4 @@
 mod reading;
 
 pub use read_answer::Input;
-pub use records::read_input;
+pub use reading::read_input;
