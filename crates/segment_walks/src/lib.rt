@@ -1,10 +1,10 @@
 // The walk for PT6312 and PT6315.
 use changes::put;
 use lamps::EIGHT;
+use one_record::record_at;
 use pointing::place_of;
 use recording::Ending;
 use recording::Read;
-use records::record_at;
 use segment::Family;
 use segment_knowledge::Control;
 use segment_knowledge::Knowledge;

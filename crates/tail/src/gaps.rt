@@ -1,9 +1,9 @@
 // The walk that looks for gaps.
 use answers::Answer;
 use answers::refused;
+use one_record::record_at;
 use pointing::place_of;
 use recording::Read;
-use records::record_at;
 use tail_starts::behind;
 use terms::Part;
 use terms::Place;

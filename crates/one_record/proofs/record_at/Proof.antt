@@ -1,12 +1,12 @@
--- `records::record_at` meets its contract: the kinds one by one, and of each what its own tests leave.
+-- `one_record::record_at` meets its contract: the kinds one by one, and of each what its own tests leave.
 -- Assumes nothing.
 use native.Mathlib.Omega.{arith}
 use mathlib.Core.Path.{refl, sym, _∙_}
 use lib.Seq.{getD-drop}
 use borrow.Author.Needs.{needs}
 use Rattle.recording.specs.Laws.{at-unlisted, at-foreign, at-cut, at-common, at-own, not-listed}
-use Rattle.records.proofs.record_at.Statement.{statement}
-use Rattle.records.proofs.record_at.Tie as tie
+use Rattle.one_record.proofs.record_at.Statement.{statement}
+use Rattle.one_record.proofs.record_at.Tie as tie
 
 shared-slice-read-kind : tie.Need-shared-slice-read-kind
 shared-slice-read-kind c = search needs
