@@ -65,24 +65,24 @@ pub fn show(moved: Moved) {
     text(b"\n");
 }
 
-fn codes_of(chip: Character) -> [u32; 10] {
+fn codes_of(chip: Character) -> [u16; 10] {
     let lit = chip.lights;
     let at = chip.position;
     [
-        chip.dcram_at.0 as u32,
-        chip.cgram_at.0 as u32,
-        chip.column as u32,
-        chip.adram_at.0 as u32,
-        chip.port as u32,
-        chip.duty as u32,
-        chip.digits as u32,
+        chip.dcram_at.0 as u16,
+        chip.cgram_at.0 as u16,
+        chip.column as u16,
+        chip.adram_at.0 as u16,
+        chip.port as u16,
+        chip.duty as u16,
+        chip.digits as u16,
         lights(lit),
         position(at),
         256,
     ]
 }
 
-fn lights(lights: Lights) -> u32 {
+fn lights(lights: Lights) -> u16 {
     match lights {
         Lights::Normal => 0,
         Lights::Off => 1,
@@ -90,7 +90,7 @@ fn lights(lights: Lights) -> u32 {
     }
 }
 
-fn position(position: Position) -> u32 {
+fn position(position: Position) -> u16 {
     match position {
         Position::Idle => 0,
         Position::First => 1,

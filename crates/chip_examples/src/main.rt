@@ -39,7 +39,7 @@ fn run(examples: &[u8]) {
         let c = examples[i];
         i += 1;
         character(c);
-        line = line.with(word.ended(c));
+        line = line.with(word, c);
         word = word.after(c);
         segment = segments::after(line, segment);
         other = characters::after(line, other);

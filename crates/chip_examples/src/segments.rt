@@ -1,7 +1,6 @@
 // PT6312 and PT6315.
 use crate::print;
 use example_text::Line;
-use example_text::number;
 use example_text::show_facts;
 use example_text::text;
 use segment::Anything;
@@ -76,7 +75,7 @@ pub fn show(family: Family, moved: Moved) {
     next(family, chip);
 }
 
-fn codes_of(chip: Segment) -> [u32; 10] {
+fn codes_of(chip: Segment) -> [u16; 10] {
     let to = chip.address;
     let mode = chip.data;
     let step = chip.stepping;
@@ -86,24 +85,24 @@ fn codes_of(chip: Segment) -> [u32; 10] {
         address(to),
         data(mode),
         stepping(step),
-        chip.mode as u32,
-        chip.dimming as u32,
+        chip.mode as u16,
+        chip.dimming as u16,
         display(shown),
-        chip.led as u32,
-        chip.count as u32,
+        chip.led as u16,
+        chip.count as u16,
         position(at),
         256,
     ]
 }
 
-fn address(address: Pointer) -> u32 {
+fn address(address: Pointer) -> u16 {
     match address {
-        Pointer::At(cell) => cell.0 as u32,
+        Pointer::At(cell) => cell.0 as u16,
         Pointer::Invalid => 257,
     }
 }
 
-fn data(data: Data) -> u32 {
+fn data(data: Data) -> u16 {
     match data {
         Data::WriteDisplay => 0,
         Data::WriteLed => 1,
@@ -112,21 +111,21 @@ fn data(data: Data) -> u32 {
     }
 }
 
-fn stepping(stepping: Stepping) -> u32 {
+fn stepping(stepping: Stepping) -> u16 {
     match stepping {
         Stepping::Increment => 0,
         Stepping::Fixed => 1,
     }
 }
 
-fn display(display: Display) -> u32 {
+fn display(display: Display) -> u16 {
     match display {
         Display::Off => 0,
         Display::On => 1,
     }
 }
 
-fn position(position: Position) -> u32 {
+fn position(position: Position) -> u16 {
     match position {
         Position::Idle => 0,
         Position::First => 1,
@@ -137,7 +136,7 @@ fn position(position: Position) -> u32 {
 
 fn next(family: Family, chip: Segment) {
     match segment_sends::sent_next(family, chip) {
-        Sent::Byte(byte) => number(b"; sends ", byte as usize),
+        Sent::Byte(byte) => print::number(b"; sends ", byte),
         Sent::NotDriven => text(b"; not driven"),
     }
     text(b"\n");

@@ -2,6 +2,7 @@
 use crate::codes;
 use crate::codes::code;
 use crate::codes::lamps_code;
+use crate::codes::partly;
 use character_knowledge::Control;
 use character_knowledge::Knowledge;
 use character_knowledge::Pointing;
@@ -11,19 +12,16 @@ use example_text::show_facts;
 // Writes everything, and what is unknown, on three lines, or all but unknown single facts on one. It begins with a line end and has none behind it.
 pub fn show_characters(k: Knowledge, all: bool) {
     let row = codes_of(k.control);
-    let dcram = k.dcram;
-    let cgram = k.cgram;
-    let adram = k.adram;
     if all {
-        control(row, true);
-        memory(dcram, cgram, adram, b';');
+        control(row, k.control.port, true);
+        memory(k, b';');
     } else {
-        memory(dcram, cgram, adram, b',');
-        control(row, false);
+        memory(k, b',');
+        control(row, k.control.port, false);
     }
 }
 
-fn codes_of(c: Control) -> [u32; 10] {
+fn codes_of(c: Control) -> [u16; 10] {
     let position = c.position;
     let dcram = c.dcram_at;
     let cgram = c.cgram_at;
@@ -47,29 +45,38 @@ fn codes_of(c: Control) -> [u32; 10] {
     ]
 }
 
-fn address(to: Pointing) -> u32 {
+fn address(to: Pointing) -> u16 {
     match to {
-        Pointing::At(cell) => cell.0 as u32 + 512,
+        Pointing::At(cell) => cell.0 as u16 + 512,
         Pointing::Unknown => 256,
     }
 }
 
 // The names stand in the order of the numbers that `character_knowledge` gives them.
-fn control(codes: [u32; 10], all: bool) {
+fn control(codes: [u16; 10], port: u16, all: bool) {
+    facts(codes, 0, 6, all);
+    partly(port, 0x03);
+    facts(codes, 6, 9, all);
+}
+
+fn facts(codes: [u16; 10], from: usize, to: usize, all: bool) {
     show_facts(
         b"\n    |position /idle/first byte/to DCRAM/to CGRAM/to ADRAM/ignoring;, |DCRAM at ;, |CGRAM at ;, |column ;, |ADRAM at ;\n    |port ;, |duty ;, |digits ;, |lights /normal/off/on",
         codes,
-        0,
-        9,
+        from,
+        to,
         all,
     );
 }
 
 // The RAMs stand on one line, with a mark between them.
-fn memory(dcram: [u16; 16], cgram: [u16; 40], adram: [u16; 16], mark: u8) {
+fn memory(k: Knowledge, mark: u8) {
+    let dcram = k.dcram;
     codes::runs(b"\n    DCRAM", 0xFF, &dcram, 16);
     character(mark);
+    let cgram = k.cgram;
     codes::runs(b" CGRAM", 0x7F, &cgram, 40);
     character(mark);
+    let adram = k.adram;
     codes::runs(b" ADRAM", 0x03, &adram, 16);
 }

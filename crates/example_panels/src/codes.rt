@@ -3,28 +3,34 @@
 // is what no knowledge may hold.
 use example_text::character;
 use example_text::hex;
-use example_text::lamps;
 use example_text::spaced;
 use example_text::text;
 use standing::Standing;
 
 // The code of a single fact.
-pub fn code(fact: Standing) -> u32 {
+pub fn code(fact: Standing) -> u16 {
     match fact {
-        Standing::Known(n) => n as u32,
+        Standing::Known(n) => n as u16,
         Standing::Unknown => 256,
     }
 }
 
-// The code of a single fact that is known bit by bit.
-pub fn lamps_code(lamps: u16, full: u8) -> u32 {
+// The code of a single fact that is known bit by bit. Where it is 258, `partly` writes what is known.
+pub fn lamps_code(lamps: u16, full: u8) -> u16 {
     if lamps == 0 {
         return 256;
     }
     if lamps / 256 == full as u16 {
-        lamps as u32 % 256
+        lamps % 256
     } else {
-        lamps as u32 + 65536
+        258
+    }
+}
+
+// Writes the bits of a single fact of which some are known.
+pub fn partly(lamps: u16, full: u8) {
+    if lamps_code(lamps, full) == 258 {
+        show_lamps(lamps, full);
     }
 }
 
@@ -56,11 +62,20 @@ fn run(from: usize, to: usize, full: u8, code: u16) {
         character(b'-');
         hex((to % 256) as u8);
     }
+    character(b'=');
+    show_lamps(code, full);
+}
+
+fn show_lamps(code: u16, full: u8) {
     if code == 0 {
-        text(b"=??");
-    } else {
-        character(b'=');
-        lamps(code, full);
+        text(b"??");
+        return;
+    }
+    hex((code % 256) as u8);
+    let marks = (code / 256) as u8;
+    if marks != full {
+        character(b'/');
+        hex(marks);
     }
 }
 

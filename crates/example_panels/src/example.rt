@@ -7,65 +7,56 @@ pub struct Example {
     pub section: u8,
     // The part byte, which holds for the packets behind its line, too.
     pub part: u8,
-    // The name of the word that began the line: the digit 0 of a part byte, or the / of a packet. It is 0 before that.
-    pub first: u8,
-    // Whether a name stands in the line.
+    // Whether the part byte or / was read, whether the line is a packet, and whether a name stands in it.
+    pub begun: bool,
+    pub packet: bool,
     pub worded: bool,
     // How many bytes there are so far, and how many there were at the last mark.
     pub length: usize,
     mark: usize,
-    // The number behind @.
-    pub start: usize,
-    // The number and the place behind $, and 9, which is no refusal's number, where there is none.
-    pub refusal: usize,
-    pub place: usize,
+    // The words that begin with @ and with $.
+    pub start: Word,
+    pub refusal: Word,
 }
 
 impl Example {
-    // A line of which nothing was read, in a section and behind a part byte. Where @ says nothing, an update has room enough, and all else starts at 0.
+    // A line of which nothing was read, in a section and behind a part byte.
     pub fn new(section: u8, part: u8) -> Example {
-        let start = if section == b'u' { 112 } else { 0 };
         Example {
             section,
             part,
-            first: 0,
+            begun: false,
+            packet: false,
             worded: false,
             length: 0,
             mark: 0,
-            start,
-            refusal: 9,
-            place: 0,
+            start: Word::new(),
+            refusal: Word::new(),
         }
     }
 
-    // Whether a word says what is known: a part byte does, and so may each word behind it.
-    pub fn tells(self, word: Word) -> bool {
-        if self.first == 0 {
-            word.name == b'0'
-        } else {
-            self.first == b'0' && word.name != 0
+    // Whether a word that ends says what is known: a part byte does, and so may each word behind it.
+    pub fn tells(self, word: Word, c: u8) -> bool {
+        if self.packet {
+            return false;
         }
+        if !word.ends(c) {
+            return false;
+        }
+        self.begun || word.name == b'0'
     }
 
-    // With one more word.
-    pub fn with(mut self, word: Word, memory: &mut [u8]) -> Example {
-        if self.first == 0 {
+    // With one more word, which counts where it ends.
+    pub fn with(mut self, word: Word, c: u8, memory: &mut [u8]) -> Example {
+        if !word.ends(c) {
+            return self;
+        }
+        if !self.begun {
             return self.begins(word);
         }
         let length = put(memory, self.mark, self.length, word);
         self.length = length;
-        let name = word.name;
-        match name {
-            b'(' => self.mark = length,
-            b'@' => self.start = word.number,
-            b'$' => {
-                self.refusal = word.at;
-                self.place = word.number;
-            }
-            b'a'..=b'z' => self.worded = true,
-            _ => {}
-        }
-        self
+        self.told(word)
     }
 
     // A remark, which begins with #, is one word and begins nothing.
@@ -74,13 +65,43 @@ impl Example {
         match name {
             b'0' => {
                 self.part = word.byte();
-                self.first = name;
+                self.begun = true;
             }
-            b'/' => self.first = name,
+            b'/' => {
+                self.packet = true;
+                self.begun = true;
+            }
             b'a'..=b'z' => self.section = name,
             _ => {}
         }
         self
+    }
+
+    fn told(mut self, word: Word) -> Example {
+        let name = word.name;
+        match name {
+            b'(' => self.mark = self.length,
+            b'@' => self.start = word,
+            b'$' => self.refusal = word,
+            b'a'..=b'z' => self.worded = true,
+            _ => {}
+        }
+        self
+    }
+
+    // Whether a line ends that has begun: then it is run.
+    pub fn ends(self, c: u8) -> bool {
+        c == b'\n' && self.begun
+    }
+
+    // Its bytes, at the front of the memory that was lent for them.
+    pub fn bytes(self, memory: &[u8]) -> &[u8] {
+        let length = self.length;
+        if length <= memory.len() {
+            &memory[..length]
+        } else {
+            memory
+        }
     }
 
     // At a line's end, the line behind it.

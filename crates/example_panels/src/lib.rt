@@ -13,5 +13,4 @@ mod tells;
 
 pub use example::Example;
 pub use known::show_known;
-pub use memory::front;
 pub use telling::told;

@@ -17,15 +17,6 @@ pub fn put(memory: &mut [u8], mark: usize, length: usize, word: Word) -> usize {
     length + 1
 }
 
-// What stands at the front, up to a length.
-pub fn front(memory: &[u8], length: usize) -> &[u8] {
-    if length <= memory.len() {
-        &memory[..length]
-    } else {
-        memory
-    }
-}
-
 // Repeats what stands from the mark up to a place until the recording reaches the end that is asked for, and gives the place behind it. Where there is
 // nothing to repeat, or no room, the recording stays as it is.
 fn repeat(recording: &mut [u8], mark: usize, at: usize, end: usize) -> usize {

@@ -2,6 +2,7 @@
 use crate::codes;
 use crate::codes::code;
 use crate::codes::lamps_code;
+use crate::codes::partly;
 use example_text::show_facts;
 use segment_knowledge::Control;
 use segment_knowledge::Knowledge;
@@ -21,19 +22,23 @@ fn show(k: Knowledge, some_cells: usize, some_keys: usize, some_facts: usize, al
     let row = codes_of(k.control);
     let memory = k.cells;
     let pressed = k.control.keys;
+    let led = k.control.led;
     if all {
         control(row, 0, 9, true);
+        partly(led, 0x0F);
         keys(pressed, some_keys);
         control(row, 9, some_facts, true);
         cells(memory, some_cells);
     } else {
         cells(memory, some_cells);
         keys(pressed, some_keys);
-        control(row, 0, some_facts, false);
+        control(row, 0, 9, false);
+        partly(led, 0x0F);
+        control(row, 9, some_facts, false);
     }
 }
 
-fn codes_of(c: Control) -> [u32; 10] {
+fn codes_of(c: Control) -> [u16; 10] {
     let position = c.position;
     let data = c.data;
     let stepping = c.stepping;
@@ -58,16 +63,16 @@ fn codes_of(c: Control) -> [u32; 10] {
     ]
 }
 
-fn address(to: Pointing) -> u32 {
+fn address(to: Pointing) -> u16 {
     match to {
-        Pointing::At(cell) => cell.0 as u32 + 512,
+        Pointing::At(cell) => cell.0 as u16 + 512,
         Pointing::Invalid => 257,
         Pointing::Unknown => 256,
     }
 }
 
 // The names stand in the order of the numbers that `segment_knowledge` gives them.
-fn control(codes: [u32; 10], from: usize, to: usize, all: bool) {
+fn control(codes: [u16; 10], from: usize, to: usize, all: bool) {
     show_facts(
         b"\n    |position /idle/first byte/open/ignoring;, |data mode /write display/write LED/read keys/read switches;, |stepping /increment/fixed;, |address ;, |read count ;\n    |mode ;, |dimming ;, |display /off/on;, |LED ;, |switches ",
         codes,

@@ -1,6 +1,6 @@
 // What a word says of PT6302.
 use crate::tells::lamps_tell;
-use crate::tells::row_told;
+use crate::tells::lamps_told;
 use crate::tells::tells;
 use character_knowledge::Control;
 use character_knowledge::Knowledge;
@@ -17,9 +17,9 @@ pub fn told_characters(k: Knowledge, word: Word) -> Knowledge {
     let mut dcram = k.dcram;
     let mut cgram = k.cgram;
     let mut adram = k.adram;
-    row_told(&mut dcram, b't', word, word.lamps(0xFF));
-    row_told(&mut cgram, b's', word, word.lamps(0x7F));
-    row_told(&mut adram, b'm', word, word.lamps(0x03));
+    lamps_told(&mut dcram, 0xFF, b't', word);
+    lamps_told(&mut cgram, 0x7F, b's', word);
+    lamps_told(&mut adram, 0x03, b'm', word);
     Knowledge {
         dcram,
         cgram,

@@ -1,6 +1,7 @@
 // What a word says of PT6312 or PT6315.
+use crate::tells::code_told;
 use crate::tells::lamps_tell;
-use crate::tells::row_told;
+use crate::tells::lamps_told;
 use crate::tells::tells;
 use example_text::Word;
 use segment_knowledge::Control;
@@ -14,17 +15,21 @@ pub fn told_segments(k: Knowledge, word: Word) -> Knowledge {
     if word.name == b'n' {
         return nothing_known();
     }
-    let control = control_told(k.control, word);
-    let code = word.lamps(0xFF);
-    if word.name == b'e' {
-        return Knowledge {
-            cells: [code; 36],
-            control,
-        };
+    let old = k.cells;
+    let cells = cells_told(old, word);
+    Knowledge {
+        cells,
+        control: control_told(k.control, word),
     }
-    let mut cells = k.cells;
-    row_told(&mut cells, b'c', word, code);
-    Knowledge { cells, control }
+}
+
+fn cells_told(cells: [u16; 36], word: Word) -> [u16; 36] {
+    if word.name == b'e' {
+        return [word.lamps(0xFF); 36];
+    }
+    let mut new = cells;
+    lamps_told(&mut new, 0xFF, b'c', word);
+    new
 }
 
 fn control_told(c: Control, word: Word) -> Control {
@@ -36,7 +41,7 @@ fn control_told(c: Control, word: Word) -> Control {
     let display = c.display;
     let led = c.led;
     let mut keys = c.keys;
-    row_told(&mut keys, b'k', word, word.code());
+    code_told(&mut keys, b'k', word);
     let switches = c.switches;
     let count = c.count;
     let position = c.position;

@@ -9,37 +9,52 @@ use panel::nothing_known;
 
 // What is known after a word that tells. The part byte begins a line: a recording starts from knowing nothing, and all else with everything known.
 pub fn told(example: Example, panel: Panel, word: Word) -> Panel {
-    let recorded = example.section == b'r';
-    if example.first != 0 {
-        if recorded {
+    if example.section == b'r' {
+        if example.begun {
             return starts(panel, word.name);
         }
-        return told_of(example.part, panel, word);
+        return nothing_known();
     }
-    if recorded {
-        nothing_known()
+    if example.begun {
+        told_of(example.part, panel, word)
     } else {
         all_known()
     }
 }
 
-// The words of a recording: known, and then led or port, with a value that is out of range and every bit known.
-fn starts(mut panel: Panel, name: u8) -> Panel {
+// The words of a recording: known, and then led or port, with a value that is out of range.
+fn starts(panel: Panel, name: u8) -> Panel {
     match name {
-        b'k' => return all_known(),
-        b'l' => panel.segment.control.led = 0x0F10,
-        b'p' => panel.character.control.port = 0x0304,
-        _ => {}
+        b'k' => all_known(),
+        b'l' => segments_told(panel, saying(b'l', 16)),
+        b'p' => characters_told(panel, saying(b'o', 4)),
+        _ => panel,
     }
-    panel
+}
+
+fn saying(name: u8, number: usize) -> Word {
+    Word {
+        name,
+        at: 0,
+        number,
+    }
 }
 
 // A word speaks of PT6312 and PT6315 where the byte names no part.
 fn told_of(part: u8, panel: Panel, word: Word) -> Panel {
     if part == 0x02 {
-        let character = told_characters(panel.character, word);
-        return Panel { character, ..panel };
+        characters_told(panel, word)
+    } else {
+        segments_told(panel, word)
     }
+}
+
+fn characters_told(panel: Panel, word: Word) -> Panel {
+    let character = told_characters(panel.character, word);
+    Panel { character, ..panel }
+}
+
+fn segments_told(panel: Panel, word: Word) -> Panel {
     let segment = told_segments(panel.segment, word);
     Panel { segment, ..panel }
 }

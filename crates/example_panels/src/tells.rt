@@ -23,10 +23,24 @@ pub fn lamps_tell(word: Word, name: u8, full: u8, before: u16) -> u16 {
     }
 }
 
-// A row after the word, which sets the code with its number where the row has its name.
-pub fn row_told(codes: &mut [u16], name: u8, word: Word, code: u16) {
+// The same for a row of such facts.
+pub fn lamps_told(codes: &mut [u16], full: u8, name: u8, word: Word) {
     let at = word.at;
-    if word.name == name && at < codes.len() {
-        codes[at] = code;
+    if word.name != name {
+        return;
+    }
+    if at < codes.len() {
+        codes[at] = word.lamps(full);
+    }
+}
+
+// Key bytes after the word, which changes the one with its number where they have its name.
+pub fn code_told(codes: &mut [u16], name: u8, word: Word) {
+    let at = word.at;
+    if word.name != name {
+        return;
+    }
+    if at < codes.len() {
+        codes[at] = word.code();
     }
 }

@@ -13,7 +13,6 @@ pub use print::character;
 pub use print::comma;
 pub use print::decimal;
 pub use print::hex;
-pub use print::lamps;
 pub use print::number;
 pub use print::spaced;
 pub use print::text;

@@ -33,14 +33,13 @@ impl Line {
         }
     }
 
-    // The line with one more word, which counts where it is a byte.
-    pub fn with(mut self, word: Word) -> Line {
+    // The line with one more character and the word before it, which counts where it ends and is a byte.
+    pub fn with(mut self, word: Word, c: u8) -> Line {
         self.whole = false;
-        if word.name == b'0' {
-            self.with_byte(word.byte())
-        } else {
-            self
+        if word.ends(c) && word.name == b'0' {
+            return self.with_byte(word.byte());
         }
+        self
     }
 
     // The line with one more byte.

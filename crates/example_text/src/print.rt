@@ -44,16 +44,6 @@ pub fn spaced(byte: u8) {
     hex(byte);
 }
 
-// Writes the values of bits, and their marks where they are not those of a byte of which every bit is known.
-pub fn lamps(code: u16, full: u8) {
-    hex((code % 256) as u8);
-    let marks = (code / 256) as u8;
-    if marks != full {
-        character(b'/');
-        hex(marks);
-    }
-}
-
 // Writes the first bytes of a row in hex, with a space before each.
 pub fn bytes(bytes: &[u8], count: usize) {
     let mut i = 0;

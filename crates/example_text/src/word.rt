@@ -19,16 +19,11 @@ impl Word {
     }
 
     // Whether a word ends at a character: at a space or with its line, and a remark, which begins with #, with its line alone.
-    fn ends(self, c: u8) -> bool {
+    pub fn ends(self, c: u8) -> bool {
         if c == b' ' {
             return self.name != b'#';
         }
         c == b'\n'
-    }
-
-    // The word where it ends at a character, and else one of which nothing was read: that counts for nothing.
-    pub fn ended(self, c: u8) -> Word {
-        if self.ends(c) { self } else { Word::new() }
     }
 
     // The word that is being read after one more character.

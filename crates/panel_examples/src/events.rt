@@ -87,11 +87,13 @@ fn unknown(n: usize, place: Place) {
 
 fn sends(sending: Sending) {
     match sending {
-        Sending::Byte(byte) => {
-            text(b"sends ");
-            hex(byte);
-        }
+        Sending::Byte(byte) => sends_byte(byte),
         Sending::NotDriven => text(b"not driven"),
         Sending::Unknown => text(b"unknown"),
     }
+}
+
+fn sends_byte(byte: u8) {
+    text(b"sends ");
+    hex(byte);
 }

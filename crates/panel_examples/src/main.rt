@@ -15,7 +15,6 @@ mod recordings;
 mod updates;
 
 use example_panels::Example;
-use example_panels::front;
 use example_text::Word;
 use example_text::character;
 use feed::Feed;
@@ -23,6 +22,7 @@ use feed::opened;
 use input::Input;
 use input::read_input;
 use libc::STDERR_FILENO;
+use panel::Panel;
 
 // A byte more than is taken shows that the input is longer.
 fn main() {
@@ -49,10 +49,9 @@ fn run(examples: &[u8], memory: &mut [u8]) {
     while i < examples.len() {
         let c = examples[i];
         i += 1;
-        let ended = word.ended(c);
-        feed = told(feed, example, ended);
-        example = example.with(ended, memory);
-        feed = comes_to(feed, example, c, memory);
+        feed = told(feed, example, word, c);
+        example = example.with(word, c, memory);
+        feed = ended(feed, example, c, memory);
         example = example.after(c);
         word = word.after(c);
         character(c);
@@ -60,8 +59,8 @@ fn run(examples: &[u8], memory: &mut [u8]) {
 }
 
 // Where a word tells, what is known is opened anew.
-fn told(feed: Feed, example: Example, word: Word) -> Feed {
-    if example.tells(word) {
+fn told(feed: Feed, example: Example, word: Word, c: u8) -> Feed {
+    if example.tells(word, c) {
         opened(example_panels::told(example, feed.panel, word))
     } else {
         feed
@@ -69,27 +68,27 @@ fn told(feed: Feed, example: Example, word: Word) -> Feed {
 }
 
 // A line is run where it ends.
-fn comes_to(feed: Feed, example: Example, c: u8, memory: &[u8]) -> Feed {
-    let bytes = front(memory, example.length);
-    let section = ended(example, c);
+fn ended(feed: Feed, example: Example, c: u8, memory: &[u8]) -> Feed {
+    if example.ends(c) {
+        comes_to(feed, example, example.bytes(memory))
+    } else {
+        feed
+    }
+}
+
+fn comes_to(feed: Feed, example: Example, bytes: &[u8]) -> Feed {
+    let section = example.section;
     match section {
-        0 => {}
         b'e' => events::run(example.part, feed.panel, bytes),
         b'r' => recordings::run(example, feed.panel, bytes),
         b'u' => updates::run(example, feed.panel, bytes),
-        b't' => {
-            example_temperatures::run(example.part, feed.panel, (example.start % 256) as u8, bytes)
-        }
+        b't' => temperatures(example, feed.panel, bytes),
         _ => return packeted::run(example, feed, bytes),
     }
     feed
 }
 
-// The section of a line that has begun, where it ends, and else 0, which is no section's letter.
-fn ended(example: Example, c: u8) -> u8 {
-    if c == b'\n' && example.first != 0 {
-        example.section
-    } else {
-        0
-    }
+fn temperatures(example: Example, panel: Panel, bytes: &[u8]) {
+    let start = (example.start.number % 256) as u8;
+    example_temperatures::run(example.part, panel, start, bytes);
 }

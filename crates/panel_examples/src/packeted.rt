@@ -13,6 +13,7 @@ use account::held;
 use account::joined;
 use example_panels::Example;
 use example_panels::show_known;
+use example_text::Word;
 use example_text::bytes;
 use example_text::number;
 use example_text::text;
@@ -26,13 +27,17 @@ use panel::Panel;
 use terms::Place;
 
 pub fn run(example: Example, feed: Feed, bytes: &[u8]) -> Feed {
-    let after = if example.first == b'/' {
+    let after = after(example, feed, bytes);
+    keeps(example.part, after);
+    after
+}
+
+fn after(example: Example, feed: Feed, bytes: &[u8]) -> Feed {
+    if example.packet {
         takes(example.part, feed, bytes)
     } else {
         begins(example, feed.panel, bytes)
-    };
-    keeps(example.part, after);
-    after
+    }
 }
 
 fn takes(part: u8, feed: Feed, packet: &[u8]) -> Feed {
@@ -46,8 +51,8 @@ fn begins(example: Example, panel: Panel, bytes: &[u8]) -> Feed {
     Feed {
         panel,
         unfinished: unfinished_of(bytes),
-        total: (example.start % 4294967296) as u32,
-        kept: kept_of(example.refusal, Place(example.place)),
+        total: (example.start.number % 4294967296) as u32,
+        kept: kept_of(example.refusal),
     }
 }
 
@@ -59,15 +64,15 @@ fn unfinished_of(bytes: &[u8]) -> Unfinished {
     }
 }
 
-// A refusal stands where its number is that of an answer.
-fn kept_of(refusal: usize, place: Place) -> Kept {
-    if refusal < 9 {
-        Kept::Refused(numbered(refusal, place))
-    } else {
+fn kept_of(refusal: Word) -> Kept {
+    if refusal.name == 0 {
         Kept::None
+    } else {
+        Kept::Refused(numbered(refusal.at, Place(refusal.number)))
     }
 }
 
+// The answer of a number; 0 also for numbers that there are none of.
 fn numbered(number: usize, place: Place) -> Answer {
     match number {
         1 => Answer::NoPart(place),
@@ -98,9 +103,13 @@ fn shows(unfinished: Unfinished) {
     if count == 0 {
         text(b" nothing");
     } else {
-        let row = joined(unfinished, b"");
-        bytes(&row, count);
+        row(unfinished, count);
     }
+}
+
+fn row(unfinished: Unfinished, count: usize) {
+    let row = joined(unfinished, b"");
+    bytes(&row, count);
 }
 
 fn stands(kept: Kept) {

@@ -23,10 +23,14 @@ use terms::Place;
 
 pub fn run(example: Example, before: Panel, recording: &[u8]) {
     let part = example.part;
-    let replayed = replay::replay(part, before, recording, Place(example.start));
+    let replayed = replay::replay(part, before, recording, Place(example.start.number));
     let answer = replayed.answer;
     answered(b"\n    replay ", answer);
     show_known(part, replayed.panel, example.worded, false);
+    tails(part, recording);
+}
+
+fn tails(part: u8, recording: &[u8]) {
     found(tail::find_tail(part, recording));
     first(tail::tail(part, recording));
 }

@@ -9,7 +9,6 @@
 use crate::in_words::answered;
 use crate::in_words::refused;
 use example_panels::Example;
-use example_panels::front;
 use example_panels::show_known;
 use example_text::bytes;
 use example_text::character;
@@ -26,14 +25,22 @@ pub fn run(example: Example, panel: Panel, given: &[u8]) {
     let mut wanted = [0x6E; 36];
     words(&mut wanted, 0, given);
     let mut out = [0xA5; 112];
-    let room = room_of(example.start);
+    let room = room_of(example);
     updates(example.part, panel, wanted, &mut out[..room]);
 }
 
-fn room_of(asked: usize) -> usize
+fn room_of(example: Example) -> usize
     ensures { λ r. ⌜ r ≤ 112 ⌝ }
 {
-    if asked < 112 { asked } else { 112 }
+    let start = example.start;
+    if start.name != b'@' {
+        return 112;
+    }
+    if start.number < 112 {
+        start.number
+    } else {
+        112
+    }
 }
 
 fn updates(part: u8, panel: Panel, wanted: [u8; 36], out: &mut [u8]) {
@@ -66,6 +73,14 @@ fn wire(count: usize, length: usize, out: &[u8]) {
     bytes(out, length);
     number(b", behind ", unchanged(out, length));
     text(b" as before");
+}
+
+fn front(out: &[u8], length: usize) -> &[u8] {
+    if length <= out.len() {
+        &out[..length]
+    } else {
+        out
+    }
 }
 
 fn unchanged(out: &[u8], from: usize) -> usize {

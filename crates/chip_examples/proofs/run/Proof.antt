@@ -37,9 +37,6 @@ add-i c = search needs
 character-requires : tie.Need-character-requires Inv-loop μ-loop
 character-requires c κs = search needs
 
-ended-requires : tie.Need-ended-requires Inv-loop μ-loop
-ended-requires c κs = search needs
-
 with-requires : tie.Need-with-requires Inv-loop μ-loop
 with-requires c κs = search needs
 
@@ -65,16 +62,16 @@ used-requires-4 : tie.Need-used-requires-4 Inv-loop μ-loop
 used-requires-4 c κs = search needs
 
 loop-less : tie.Need-loop-less Inv-loop μ-loop
-loop-less c = omega (arith, c .before .before .before .before .before .before .before .before .before .before .before .before .loop-test .taken)
+loop-less c = omega (arith, c .before .before .before .before .before .before .before .before .before .before .before .loop-test .taken)
 
 loop-again : tie.Need-loop-again Inv-loop μ-loop
-loop-again c = omega (arith, c .before .before .before .before .before .before .before .before .before .before .before .before .loop-test .taken)
+loop-again c = omega (arith, c .before .before .before .before .before .before .before .before .before .before .before .loop-test .taken)
 
 loop-less-2 : tie.Need-loop-less-2 Inv-loop μ-loop
-loop-less-2 c = omega (arith, c .before .before .before .before .before .before .before .before .loop-test .taken)
+loop-less-2 c = omega (arith, c .before .before .before .before .before .before .before .loop-test .taken)
 
 loop-again-2 : tie.Need-loop-again-2 Inv-loop μ-loop
-loop-again-2 c = omega (arith, c .before .before .before .before .before .before .before .before .loop-test .taken)
+loop-again-2 c = omega (arith, c .before .before .before .before .before .before .before .loop-test .taken)
 
 returns : tie.Need-returns Inv-loop μ-loop
 returns c = search needs
@@ -93,7 +90,6 @@ run-spec =
     shared-slice-read-c
     add-i
     character-requires
-    ended-requires
     with-requires
     after-requires
     after-requires-2

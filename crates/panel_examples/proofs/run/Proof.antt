@@ -35,17 +35,14 @@ shared-slice-read-c c = search needs
 add-i : tie.Need-add-i Inv-loop μ-loop
 add-i c = search needs
 
-ended-requires : tie.Need-ended-requires Inv-loop μ-loop
-ended-requires c κs = search needs
-
 told-requires : tie.Need-told-requires Inv-loop μ-loop
 told-requires c κs = search needs
 
 with-requires : tie.Need-with-requires Inv-loop μ-loop
 with-requires c κs = search needs
 
-comes-to-requires : tie.Need-comes-to-requires Inv-loop μ-loop
-comes-to-requires c κs = search needs
+ended-requires : tie.Need-ended-requires Inv-loop μ-loop
+ended-requires c κs = search needs
 
 after-requires : tie.Need-after-requires Inv-loop μ-loop
 after-requires c κs = search needs
@@ -57,12 +54,12 @@ character-requires : tie.Need-character-requires Inv-loop μ-loop
 character-requires c κs = search needs
 
 loop-less : tie.Need-loop-less Inv-loop μ-loop
-loop-less c = omega (arith, c .before .before .before .before .before .before .before .before .before .before .before .before .loop-test .taken)
+loop-less c = search needs
 
 loop-again : tie.Need-loop-again Inv-loop μ-loop
 loop-again c =
     let lent = c .before .before .before .before .before .before in
-    let inside = lent .before .before .before .before .before .before in
+    let inside = lent .before .before .before .before .before in
     (omega (arith, inside .loop-test .taken), omega (arith, lent .memory .given, inside .before .loop .inv))
 
 same-length : tie.Need-same-length Inv-loop μ-loop
@@ -84,10 +81,9 @@ run-spec =
     loop-holds
     shared-slice-read-c
     add-i
-    ended-requires
     told-requires
     with-requires
-    comes-to-requires
+    ended-requires
     after-requires
     after-requires-2
     character-requires

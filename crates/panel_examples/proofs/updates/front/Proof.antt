@@ -1,10 +1,10 @@
--- `front` meets its contract, which says nothing: the part that is lent is as long as asked for.
+-- `panel_examples::updates::front` meets its contract, which says nothing: the part that is lent is as long as asked for.
 -- Assumes nothing.
 use native.Mathlib.Omega.{arith}
 use lib.ListN.{length-take}
 use borrow.Author.Needs.{needs}
-use Rattle.example_panels.proofs.memory.front.Statement.{statement}
-use Rattle.example_panels.proofs.memory.front.Tie as tie
+use Rattle.panel_examples.proofs.updates.front.Statement.{statement}
+use Rattle.panel_examples.proofs.updates.front.Tie as tie
 
 slice-aggregate-result : tie.Need-slice-aggregate-result
 slice-aggregate-result c = simp length-take (omega arith)
