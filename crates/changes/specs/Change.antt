@@ -7,7 +7,7 @@ use lib.Dec.{eqb}
 use lib.ListN.{length}
 use Rattle.rules.specs.Choice.{whether}
 use Rattle.knowing.specs.Standing.{Standing, unknown}
-use Rattle.lamps.specs.View.{held, Wide, told, met, OfByte}
+use Rattle.lamps.specs.View.{held, Wide, told, met, metCode, NonePast}
 use Rattle.changes.specs.declared.change.Change.{Change}
 use Rattle.changes.specs.declared.change.Change.the-variants.{Keep, Put, Meet, Forget}
 
@@ -27,9 +27,9 @@ seen w Forget i k s = unknown
 abbrev pub Changes : ℕ → Change → List ℕ → List ℕ → Type 0
 Changes w x l r = (i k : ℕ) → held w r i k ≡ seen w x i k (held w l i k)
 
--- The codes r are those of l, but that the byte of the code c may have gone to n of them, from `from` on, one in `by`.
+-- The codes r are those of l, but that what the code c says may have gone to n of them, from `from` on, one in `by`.
 pub record Met (wide c : ℕ) (l : List ℕ) (from by n : ℕ) (r : List ℕ) : Type 0 where
-  pub shows : (w b : ℕ) → Wide w wide → OfByte w b c → Changes w (Meet (record { 0 = from }) by n b) l r
+  pub shows : (w : ℕ) → Wide w wide → NonePast w c → (i k : ℕ) → held w r i k ≡ whether (among from by n i) (metCode w c k (held w l i k)) (held w l i k)
   pub size : length r ≡ length l
 
 -- The change stays within a row of that many codes.

@@ -21,9 +21,9 @@ use Rattle.knowing.specs.Know.{join, lifted}
 use Rattle.knowing.specs.Join.{join-swap, join-again, join-not, join-nor, join-itself}
 use Rattle.changes.specs.declared.change.Change.{Change}
 use Rattle.changes.specs.declared.change.Change.the-variants.{Keep, Put, Meet, Forget}
-use Rattle.lamps.specs.View.{shown, held, Wide, told, met, Puts, Meets}
-use Rattle.lamps.specs.Lamp.{none-shown}
-use Rattle.changes.specs.Change.{among, seen, Met, Inside, loose, joinedWith, joined, TogetherWith, Together, Plain}
+use Rattle.lamps.specs.View.{shown, held, Wide, told, met, metCode, OfByte, Puts, Meets}
+use Rattle.lamps.specs.Lamp.{none-shown, byte-none-past, byte-met-code}
+use Rattle.changes.specs.Change.{among, seen, Changes, Met, Inside, loose, joinedWith, joined, TogetherWith, Together, Plain}
 
 -- A bit that keeps or takes part.
 by-test : (t : Bool) (s x : Standing) → whether t (join s x) s ≡ join s (whether t x s)
@@ -186,9 +186,9 @@ met-or-not w from by n b i k s t here rest = among-or-not from by n i (met w b k
     go j h p (yes l) = rw (lt-ltb k w l) (here j h p l)
     go j h p (no m) = rw (le-ltb k w (omega arith)) (rest (λ j h l. absurd (m l)))
 
--- A byte that may have gone to none of the codes, and to one more. The codes before it are others, as the distance is not nought.
+-- What may have gone to none of the codes, and to one more. The codes before it are others, as the distance is not nought.
 pub met-none : (wide c : ℕ) (l : List ℕ) (from by : ℕ) → Met wide c l from by 0 l
-met-none wide c l from by = record { shows = λ w b W o i k. refl; size = refl }
+met-none wide c l from by = record { shows = λ w W h i k. refl; size = refl }
 
 fresh : (from by n m : ℕ) → 0 < by → n ≤ m → among from by n (from + by * m) ≡ false
 fresh from by zero m step h = refl
@@ -199,9 +199,9 @@ fresh from by (suc n) m step h =
 pub met-more : (wide c : ℕ) (l r : List ℕ) (from by n x : ℕ) → 0 < by → Met wide c l from by n r → from + by * n < length r → Meets wide c (getD r (from + by * n) 0) x
     → Met wide c l from by (n + 1) (set r (from + by * n) x)
 met-more wide c l r from by n x step m h e = record {
-  shows = λ w b W o i k. rw add-one
-      (set-seen w (met w b) r (from + by * n) x h (e w b W o) i k
-      ∙ rw (m .shows w b W o i k) (once (eqb i (from + by * n)) (among from by n i) (held w l i k) (met w b k) (λ t. ap (among from by n) (eqb-true i _ t) ∙ fresh from by n n step (omega arith))));
+  shows = λ w W o i k. rw add-one
+      (set-seen w (metCode w c) r (from + by * n) x h (e w W o) i k
+      ∙ rw (m .shows w W o i k) (once (eqb i (from + by * n)) (among from by n i) (held w l i k) (metCode w c k) (λ t. ap (among from by n) (eqb-true i _ t) ∙ fresh from by n n step (omega arith))));
   size = length-set r (from + by * n) x ∙ m .size;
 }
   where
@@ -214,6 +214,11 @@ pub met-run : (wide c : ℕ) (l r : List ℕ) (from n x : ℕ) → Met wide c l 
 met-run wide c l r from n x m =
     let z : from + 1 * n ≡ from + n = omega arith in
     subst (λ (k : ℕ). k < length r → Meets wide c (getD r k 0) x → Met wide c l from 1 (n + 1) (set r k x)) z (met-more wide c l r from 1 n x (omega arith) m)
+
+-- Where the code is that of a byte, the byte may have gone to them.
+pub met-byte : (w wide b c : ℕ) (l r : List ℕ) (from by n : ℕ) → Wide w wide → OfByte w b c → Met wide c l from by n r → Changes w (Meet (record { 0 = from }) by n b) l r
+met-byte w wide b c l r from by n W o m i k =
+    m .shows w W (byte-none-past w b c o) i k ∙ ap (λ (s : Standing). whether (among from by n i) s (held w l i k)) (byte-met-code w b c o k (held w l i k))
 
 -- A code put is its bits set: the facts are numbered by code and bit, as those of cells are.
 module _ {F : Type 0} (same? : Discrete F) (numbered : ℕ → ℕ → F) (apart : (i k j n : ℕ) → numbered i k ≡ numbered j n → (i ≡ j) × (k ≡ n)) (v : F → Standing) where

@@ -12,7 +12,7 @@ ghost use Rattle.lamps.specs.View.{held, Wide};
 ghost use Rattle.changes.specs.Change.{Inside, Changes, Met};
 ghost use Rattle.changes.specs.declared.change.Change.the-variants.{Put, Meet};
 
-// A byte may have gone to any of these codes: `count` of them, from `from` on, one in `by`. Each keeps what it has in common with the byte.
+// What the code `c` says may have gone to any of these codes: `count` of them, from `from` on, one in `by`. Each keeps what it has in common with `c`.
 fn meet(codes: &mut [u16], wide: u16, from: usize, by: usize, count: usize, c: u16)
     requires { ⌜ (0 < by) × ((i : ℕ) → i < count → from + by * i < length (now codes)) ⌝ }
     ensures { λ r. ⌜ Met wide c (now (codes .entry)) from by count (now (codes .exit)) ⌝ }

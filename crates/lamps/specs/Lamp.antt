@@ -1,7 +1,7 @@
--- Laws of a code: what two codes have in common, a byte put, a byte that may have been put, number 2. The argument: the
+-- Laws of a code: what two codes have in common, a byte put, a code that may have been put, number 2. The argument: the
 -- operations go into the values and into the marks alike, and so down to single bits, where there are sixteen cases or fewer.
--- Each code that is put follows from one law, that of a code of which the bits of a width are another's; a byte that may have
--- been put is what the code and the byte's have in common, put.
+-- Each code that is put follows from one law, that of a code of which the bits of a width are another's; a code that may have
+-- been put is what the two have in common, put, and the code of a byte is one such.
 use Prim.Native.Nat.{ℕ, _+_, _*_, _/_, _%_, _^_, _-_, _<_, _≤_, max}
 use native.Mathlib.Omega.{arith}
 use native.Mathlib.Nat.{div-eq-of-lt, mod-eq-of-lt, mul-mod-left, lt-of-lt-of-le, lt-of-le-of-lt, div-add-mod'}
@@ -16,7 +16,7 @@ use Rattle.rules.specs.Digit.{digit, digit-small, binary, Four, each2, or-digit
 use Rattle.knowing.specs.Standing.{Standing, known, unknown, Within}
 use Rattle.knowing.specs.Know.{join, keptIf}
 use Rattle.knowing.specs.Join.{join-swap, join-not}
-use Rattle.lamps.specs.View.{lit, past, shown, Wide, told, met, OfByte}
+use Rattle.lamps.specs.View.{lit, past, shown, Wide, told, met, metCode, NonePast, OfByte}
 
 -- What holds of 0 and of 1 holds of four bits.
 each4 : (P : ℕ → ℕ → ℕ → ℕ → Type 0) → Four (λ x y. Four (P x y)) → (x y z t : ℕ) → x < 2 → y < 2 → z < 2 → t < 2 → P x y z t
@@ -156,6 +156,17 @@ pub none-shown : (w k : ℕ) → shown w 0 k ≡ unknown
 unfolding shown
 none-shown w k = rw (digit-none k) refl
 
+-- The code of a byte says nothing past the width, and what it says may have gone to a bit where the byte may have.
+pub byte-none-past : (w b c : ℕ) → OfByte w b c → NonePast w c
+byte-none-past w b c o k t = o k ∙ rw t refl
+
+pub byte-met-code : (w b c : ℕ) → OfByte w b c → (k : ℕ) (s : Standing) → metCode w c k s ≡ met w b k s
+byte-met-code w b c o k s = ap (λ (x : Standing). whether (ltb k w) (join s x) s) (o k) ∙ go (ltb k w)
+  where
+    go : (t : Bool) → whether t (join s (whether t (known (digit k b)) unknown)) s ≡ whether t (join s (known (digit k b))) s
+    go true = refl
+    go false = refl
+
 -- A code put over the bits of a width of another.
 abbrev putCode : ℕ → ℕ → ℕ → ℕ
 putCode wide a c = bitOr (bitXor a (bitAnd a wide)) c
@@ -178,7 +189,7 @@ module _ (w wide : ℕ) (W : Wide w wide) where
       ∙ mixed-shown 0 x k ∙ ap (whether (ltb k w) (shown w x k)) (none-shown w k)
 
   -- A code that has no bit past the width, put: cut to the width it is the same.
-  put-shown : (a c : ℕ) → ((k : ℕ) → ltb k w ≡ false → shown w c k ≡ unknown) → (k : ℕ) → shown w (putCode wide a c) k ≡ whether (ltb k w) (shown w c k) (shown w a k)
+  put-shown : (a c : ℕ) → NonePast w c → (k : ℕ) → shown w (putCode wide a c) k ≡ whether (ltb k w) (shown w c k) (shown w a k)
   put-shown a c h k = ap (λ (n : ℕ). shown w (putCode wide a n) k) (one-code w c (bitAnd c wide) (λ j. go j (ltb j w) refl ∙ sym (cut-shown c j))) ∙ mixed-shown a c k
     where
       go : (j : ℕ) (t : Bool) → ltb j w ≡ t → shown w c j ≡ whether t (shown w c j) unknown
@@ -196,29 +207,20 @@ module _ (w wide : ℕ) (W : Wide w wide) where
           (binary (λ (n : ℕ). lit 0 n 1 ≡ known n) refl refl (digit k b) (digit-small k b))
       go false t = refl
 
-  module _ (b c : ℕ) (o : OfByte w b c) where
-    none-past : (k : ℕ) → ltb k w ≡ false → shown w c k ≡ unknown
-    none-past k t = o k ∙ rw t refl
+  -- The byte put.
+  pub byte-put : (b c : ℕ) → OfByte w b c → (a k : ℕ) → shown w (putCode wide a c) k ≡ told w b k (shown w a k)
+  byte-put b c o a k = put-shown a c (byte-none-past w b c o) k ∙ ap (λ (s : Standing). whether (ltb k w) s (shown w a k)) (o k) ∙ go (ltb k w)
+    where
+      go : (t : Bool) → whether t (whether t (known (digit k b)) unknown) (shown w a k) ≡ whether t (known (digit k b)) (shown w a k)
+      go true = refl
+      go false = refl
 
-    -- The byte put.
-    pub byte-put : (a k : ℕ) → shown w (putCode wide a c) k ≡ told w b k (shown w a k)
-    byte-put a k = put-shown a c none-past k ∙ ap (λ (s : Standing). whether (ltb k w) s (shown w a k)) (o k) ∙ go (ltb k w)
-      where
-        go : (t : Bool) → whether t (whether t (known (digit k b)) unknown) (shown w a k) ≡ whether t (known (digit k b)) (shown w a k)
-        go true = refl
-        go false = refl
-
-    -- The byte that may have been put: what it has in common with the code, put.
-    pub byte-met : (a k : ℕ) → a < 65536 → c < 65536 → shown w (putCode wide a (bitXor c (bitAnd c (spread (bitXor a c))))) k ≡ met w b k (shown w a k)
-    byte-met a k ha hc =
-        ap (λ (d : ℕ). shown w (putCode wide a (bitXor c (bitAnd c (spread d)))) k) (xor-comm a c)
-        ∙ put-shown a (bothLamps c a) (λ j t. both-shown w c a j hc ha ∙ sym (join-not (shown w c j) (shown w a j) (none-past j t))) k
-        ∙ ap (λ (s : Standing). whether (ltb k w) s (shown w a k)) (both-shown w c a k hc ha ∙ ap (λ (s : Standing). join s (shown w a k)) (o k))
-        ∙ go (ltb k w)
-      where
-        go : (t : Bool) → whether t (join (whether t (known (digit k b)) unknown) (shown w a k)) (shown w a k) ≡ whether t (join (shown w a k) (known (digit k b))) (shown w a k)
-        go true = join-swap (known (digit k b)) (shown w a k)
-        go false = refl
+  -- A code that may have been put: what it has in common with the other, put.
+  pub code-met : (c : ℕ) → NonePast w c → (a k : ℕ) → a < 65536 → c < 65536 → shown w (putCode wide a (bitXor c (bitAnd c (spread (bitXor a c))))) k ≡ metCode w c k (shown w a k)
+  code-met c h a k ha hc =
+      ap (λ (d : ℕ). shown w (putCode wide a (bitXor c (bitAnd c (spread d)))) k) (xor-comm a c)
+      ∙ put-shown a (bothLamps c a) (λ j t. both-shown w c a j hc ha ∙ sym (join-not (shown w c j) (shown w a j) (h j t))) k
+      ∙ ap (λ (s : Standing). whether (ltb k w) s (shown w a k)) (both-shown w c a k hc ha ∙ join-swap (shown w c k) (shown w a k))
 
 -- The bits of a width.
 wide-at : (w k : ℕ) → ltb k w ≡ true → digit k (2 ^ w - 1) ≡ 1

@@ -2,6 +2,7 @@
 -- bits that are known (M-107). A bit without a mark is stored as 0, so that there is one code for what is known of a byte.
 use Prim.Native.Nat.{ℕ, _+_, _/_, _%_, _^_, _-_, _≤_}
 use mathlib.Core.Path.{_≡_}
+use mathlib.Core.Bool.{false}
 use mathlib.Core.List.{List}
 use lib.Dec.{ltb}
 use lib.ListN.{getD}
@@ -39,6 +40,14 @@ told w b k s = whether (ltb k w) (known (digit k b)) s
 abbrev pub met : ℕ → ℕ → ℕ → Standing → Standing
 met w b k s = whether (ltb k w) (join s (known (digit k b))) s
 
+-- What is known of a bit where what the code c says may have gone there.
+abbrev pub metCode : ℕ → ℕ → ℕ → Standing → Standing
+metCode w c k s = whether (ltb k w) (join s (shown w c k)) s
+
+-- The code c says nothing past the width.
+abbrev pub NonePast : ℕ → ℕ → Type 0
+NonePast w c = (k : ℕ) → ltb k w ≡ false → shown w c k ≡ unknown
+
 -- The code c is that of the byte b: every bit of the width is known, and nothing past it.
 abbrev pub OfByte : ℕ → ℕ → ℕ → Type 0
 OfByte w b c = (k : ℕ) → shown w c k ≡ told w b k unknown
@@ -47,6 +56,6 @@ OfByte w b c = (k : ℕ) → shown w c k ≡ told w b k unknown
 abbrev pub Puts : ℕ → ℕ → ℕ → ℕ → Type 0
 Puts wide b a r = (w : ℕ) → Wide w wide → (k : ℕ) → shown w r k ≡ told w b k (shown w a k)
 
--- The code r is what is left of a where the byte of the code c may have gone.
+-- The code r is what is left of a where what the code c says may have gone there.
 abbrev pub Meets : ℕ → ℕ → ℕ → ℕ → Type 0
-Meets wide c a r = (w b : ℕ) → Wide w wide → OfByte w b c → (k : ℕ) → shown w r k ≡ met w b k (shown w a k)
+Meets wide c a r = (w : ℕ) → Wide w wide → NonePast w c → (k : ℕ) → shown w r k ≡ metCode w c k (shown w a k)

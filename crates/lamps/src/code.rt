@@ -45,8 +45,8 @@ fn put_code(wide: u16, code: u16, c: u16) -> u16
     (code ^ (code & wide)) | c
 }
 
-// A code where the byte of the code `c` may have gone: a known bit that differs from the byte's is forgotten, and one that does not is the byte's. A loop
-// of this is what a byte at an unknown address costs, so it is written in as few steps as there can be.
+// A code where what the code `c` says may have gone, be it one byte's code or what several have in common: a bit that both know alike stays known, and
+// any other of the width is forgotten. A loop of this is what a byte at an unknown address costs, so it is written in as few steps as there can be.
 pub fn meet_code(wide: u16, code: u16, c: u16) -> u16
     ensures { λ r. ⌜ Meets wide c code r ⌝ }
 {

@@ -1,9 +1,10 @@
--- `changes::rows::meet_all` meets its contract: codes side by side and codes apart are met in loops of their own. Assumes nothing.
+-- `changes::rows::meet_all` meets its contract: codes side by side and codes apart are met in loops of their own, with the code of the byte. Assumes nothing.
 use Prim.Native.Nat.{ℕ, _+_, _*_, _<_}
 use native.Mathlib.Omega.{arith}
 use mathlib.Core.Path.{subst, subst⁻¹}
 use lib.ListN.{length}
 use Rattle.changes.specs.Change.{Changes}
+use Rattle.changes.specs.Together.{met-byte}
 use Rattle.changes.specs.declared.change.Change.the-variants.{Meet}
 use borrow.Author.Needs.{needs}
 use Rattle.changes.proofs.rows.meet_all.Statement.{statement}
@@ -32,7 +33,7 @@ returns c = λ w W.
     let s = o .before .before .before in
     let a = s .args in
     subst⁻¹ (λ (n : ℕ). Changes w (Meet (a .from) n (a .count) (a .byte)) (a .codes .now) (c .before .before .meet-run .last .0)) (c .before .before .before .before .if1 .taken)
-    (c .before .before .meet-run .ensures .shows w (a .byte) W (o .code-of .ensures w W))
+    (met-byte w _ (a .byte) _ _ _ (a .from .0) 1 (a .count) W (o .code-of .ensures w W) (c .before .before .meet-run .ensures))
 
 same-length-2 : tie.Need-same-length-2
 same-length-2 c = search needs
@@ -40,7 +41,8 @@ same-length-2 c = search needs
 returns-2 : tie.Need-returns-2
 returns-2 c = λ w W.
     let o = c .before .before .before .before .before in
-    c .before .before .meet .ensures .shows w (o .before .before .before .args .byte) W (o .code-of .ensures w W)
+    let a = o .before .before .before .args in
+    met-byte w _ (a .byte) _ _ _ (a .from .0) (a .by) (a .count) W (o .code-of .ensures w W) (c .before .before .meet .ensures)
 
 pub meet-all-spec : {M : Type 1} → statement M
 meet-all-spec =
