@@ -1,4 +1,4 @@
--- What a change does to a row of codes, and what two changes have in common.
+-- What a change does to a row of codes, what two changes have in common, and what a run of bytes does.
 use Prim.Native.Nat.{ℕ, zero, suc, _+_, _*_, _<_}
 use mathlib.Core.Path.{_≡_}
 use mathlib.Core.Bool.{Bool, false, _||_}
@@ -7,6 +7,7 @@ use lib.Dec.{eqb}
 use lib.ListN.{length}
 use Rattle.rules.specs.Choice.{whether}
 use Rattle.knowing.specs.Standing.{Standing, unknown}
+use Rattle.knowing.specs.Know.{join}
 use Rattle.lamps.specs.View.{held, Wide, told, met, metCode, NonePast}
 use Rattle.changes.specs.declared.change.Change.{Change}
 use Rattle.changes.specs.declared.change.Change.the-variants.{Keep, Put, Meet, Forget}
@@ -31,6 +32,21 @@ Changes w x l r = (i k : ℕ) → held w r i k ≡ seen w x i k (held w l i k)
 pub record Met (wide c : ℕ) (l : List ℕ) (from by n : ℕ) (r : List ℕ) : Type 0 where
   pub shows : (w : ℕ) → Wide w wide → NonePast w c → (i k : ℕ) → held w r i k ≡ whether (among from by n i) (metCode w c k (held w l i k)) (held w l i k)
   pub size : length r ≡ length l
+
+-- What is known of a row after the bytes b 0, b 1, .. are put one behind the other from `at` on.
+abbrev pub storedRun : ℕ → ℕ → (ℕ → ℕ) → ℕ → (ℕ → ℕ → Standing) → ℕ → ℕ → Standing
+storedRun w at b zero m i k = m i k
+storedRun w at b (suc j) m i k = seen w (Put (record { 0 = at + j }) (b j)) i k (storedRun w at b j m i k)
+
+-- What is known of a bit after each of n bytes may have gone there.
+abbrev pub metRun : ℕ → (ℕ → ℕ) → ℕ → ℕ → Standing → Standing
+metRun w b zero k s = s
+metRun w b (suc n) k s = met w (b n) k (metRun w b n k s)
+
+-- What n + 1 bytes have in common.
+abbrev pub sharedBy : ℕ → (ℕ → ℕ) → ℕ → ℕ → Standing
+sharedBy w b zero k = told w (b 0) k unknown
+sharedBy w b (suc n) k = join (sharedBy w b n k) (told w (b (suc n)) k unknown)
 
 -- The change stays within a row of that many codes.
 abbrev pub Inside : ℕ → Change → Type 0

@@ -1,2 +1,3 @@
 pub mod Change
 pub mod Together
+pub mod Run

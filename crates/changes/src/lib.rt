@@ -6,4 +6,5 @@ pub use change::Change;
 pub use change::both_changes;
 pub use rows::apply;
 pub use rows::meet_all;
+pub use rows::meet_run;
 pub use rows::put;

@@ -25,8 +25,9 @@ fn meet(codes: &mut [u16], wide: u16, from: usize, by: usize, count: usize, c: u
     }
 }
 
-// The same for codes that stand side by side, a loop that goes quickly.
-fn meet_run(codes: &mut [u16], wide: u16, from: usize, count: usize, c: u16)
+// The same for codes that stand side by side, a loop that goes quickly. It is public for a caller that has the code of what a run of bytes has in
+// common, so that one loop does for the whole run.
+pub fn meet_run(codes: &mut [u16], wide: u16, from: usize, count: usize, c: u16)
     requires { ⌜ ((i : ℕ) → i < count → from + 1 * i < length (now codes)) ⌝ }
     ensures { λ r. ⌜ Met wide c (now (codes .entry)) from 1 count (now (codes .exit)) ⌝ }
 {
