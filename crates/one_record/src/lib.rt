@@ -1,4 +1,9 @@
-// One record read, as code: the event at a place of a recording and its length, or why it is none.
+// One record read, as code: the event at a place of a recording and its length, or why it is none. The records of every day are also told by a glance,
+// which asks for no part and hands on no more than a walk needs.
+mod glance;
+
+pub use glance::Everyday;
+pub use glance::everyday_at;
 use recording::Read;
 use recording::Refusal;
 use recording::has_keys;

@@ -1,2 +1,4 @@
 pub mod Turn
 pub mod Kept
+pub mod Reads
+pub mod Run
