@@ -1,11 +1,15 @@
--- Rows of codes of which every bit is known or unknown.
+-- Rows of codes of which every bit is known or unknown. The argument: a row is known code by code, and behind it nothing is; a
+-- test of a whole row is that of one code more at each step, and a number that takes in the bits of others is 0 where all are.
 use Prim.Native.Nat.{ℕ, _+_, _<_}
 use native.Mathlib.Omega.{arith}
-use native.Mathlib.Decide.{decLt, ℕ-discrete}
-use mathlib.Core.Path.{_≡_, sym, ap, _∙_, subst}
-use mathlib.Core.Bool.{Bool, false, true≢false}
+use native.Mathlib.Decide.{decLt}
+use mathlib.Core.Path.{_≡_, sym, ap, ap₂, _∙_, subst}
 use mathlib.Core.List.{List}
+use lib.Bits.{bitOr, or-add-and, and-le-l, and-le-r}
+use lib.Dec.{eqb}
 use lib.ListN.{length, getD, replicate, List·getD-eq-default}
+use borrow.Author.Count.{below-more}
+use borrow.Author.Tests.{eqb-true, eq-eqb}
 use Rattle.rules.specs.Unique.{same-list, getD-same}
 use Rattle.knowing.specs.Standing.{Standing, unknown, Within}
 use Rattle.rules.specs.Tests.{Tests}
@@ -24,12 +28,18 @@ one-row w n l m ll lm h = same-list n l m ll lm (λ i. one-code w (getD l i 0) (
 abbrev pub LampsSound : ℕ → List ℕ → ℕ → Type 0
 LampsSound w l n = (i k : ℕ) → i < n → Within 2 (held w l i k)
 
-pub lamps-more : (w : ℕ) (l : List ℕ) (n : ℕ) → LampsSound w l n → ((k : ℕ) → Within 2 (held w l n k)) → LampsSound w l (n + 1)
-lamps-more w l n all h i k o = go (ℕ-discrete i n)
-  where
-    go : Dec (i ≡ n) → Within 2 (held w l i k)
-    go (yes p) = rw p (h k)
-    go (no p) = all i k (omega arith)
+-- A number with the bits of two is 0 only where both are.
+or-none : (a b : ℕ) → bitOr a b ≡ 0 → (a ≡ 0) × (b ≡ 0)
+or-none a b e = (omega (arith, or-add-and a b, and-le-r a b), omega (arith, or-add-and a b, and-le-l a b))
+
+-- One code more: a number that is 0 exactly where the codes before it are sound gets its wrong bits.
+pub lamps-more : (w : ℕ) (l : List ℕ) (n a b : ℕ) → Tests (eqb a 0) (LampsSound w l n) → Tests (eqb b 0) ((k : ℕ) → Within 2 (held w l n k)) → Tests (eqb (bitOr a b) 0) (LampsSound w l (n + 1))
+lamps-more w l n a b all one = record {
+  so = λ e i k h.
+      let z = or-none a b (eqb-true _ 0 e) in
+      below-more (λ (j : ℕ). (k : ℕ) → Within 2 (held w l j k)) n (λ j m k. all .so (eq-eqb a 0 (z .0)) j k m) (one .so (eq-eqb b 0 (z .1))) i h k;
+  back = λ h. eq-eqb _ 0 (ap₂ bitOr (eqb-true a 0 (all .back (λ i k m. h i k (omega arith)))) (eqb-true b 0 (one .back (λ k. h n k (omega arith)))));
+}
 
 -- Where the row ends, nothing is known.
 pub whole-lamps : (w : ℕ) (l : List ℕ) (n : ℕ) → length l ≡ n → LampsSound w l n → (i k : ℕ) → Within 2 (held w l i k)
@@ -38,10 +48,3 @@ whole-lamps w l n e h i k = go (decLt i n)
     go : Dec (i < n) → Within 2 (held w l i k)
     go (yes p) = h i k p
     go (no p) = subst (λ (s : Standing). Within 2 s) (sym (ap (λ (c : ℕ). shown w c k) (List·getD-eq-default l 0 (omega arith)) ∙ none-shown w k)) tt
-
--- One code that has a wrong bit is enough.
-pub lamps-beyond : (w : ℕ) (l : List ℕ) (count n : ℕ) (b : Bool) → Tests b ((k : ℕ) → Within 2 (held w l n k)) → b ≡ false → n < count → Tests false (LampsSound w l count)
-lamps-beyond w l count n b t e h = record {
-  so = λ z. absurd (true≢false (sym z));
-  back = λ all. absurd (true≢false (sym (t .back (λ k. all n k h)) ∙ e));
-}

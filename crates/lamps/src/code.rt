@@ -1,6 +1,7 @@
 // One code.
 ghost use mathlib.Core.Path.{_≡_};
 ghost use Prim.Native.Nat.{ℕ};
+ghost use lib.Dec.{eqb};
 ghost use Rattle.rules.specs.Tests.{Tests};
 ghost use Rattle.knowing.specs.Standing.{Within};
 ghost use Rattle.knowing.specs.Know.{join};
@@ -55,14 +56,22 @@ pub fn meet_code(wide: u16, code: u16, c: u16) -> u16
     (code ^ (code & wide)) | (c ^ (c & e))
 }
 
-// Number 2 of one code: no bit past the width, and no value where there is no mark.
-pub fn lamps_sound(wide: u16, code: u16) -> bool
-    ensures { λ r. ⌜ ((w : ℕ) → Wide w wide → Tests r ((k : ℕ) → Within 2 (shown w code k))) ⌝ }
+// The bits of a code that number 2 rules out: those past the width, and the values where there is no mark. It is a number, so that those of a whole row can
+// be gathered without a branch.
+pub fn wrong_bits(wide: u16, code: u16) -> u16
+    ensures { λ r. ⌜ ((w : ℕ) → Wide w wide → Tests (eqb r 0) ((k : ℕ) → Within 2 (shown w code k))) ⌝ }
 {
     let past = code ^ (code & wide);
     let low = code & 255;
     let unmarked = low ^ (low & (code >> 8));
-    (past | unmarked) == 0
+    past | unmarked
+}
+
+// Number 2 of one code.
+pub fn lamps_sound(wide: u16, code: u16) -> bool
+    ensures { λ r. ⌜ ((w : ℕ) → Wide w wide → Tests r ((k : ℕ) → Within 2 (shown w code k))) ⌝ }
+{
+    wrong_bits(wide, code) == 0
 }
 
 // This cell of eight bits is known to hold this byte: one function for all that asks this of a cell.

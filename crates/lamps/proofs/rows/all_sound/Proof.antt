@@ -1,36 +1,32 @@
--- `lamps::rows::all_sound` meets its contract: the codes passed are all within, and the first that is not ends the walk. Assumes nothing.
-use Rattle.lamps.specs.View.{Wide}
-use Rattle.lamps.specs.Row.{LampsSound, lamps-more, lamps-beyond}
-use borrow.Author.Tests.{not-true, not-false}
-use borrow.Author.Needs.{needs}
-use mathlib.Core.Path.{refl}
-use native.Mathlib.Omega.{arith}
+-- `lamps::rows::all_sound` meets its contract: the number that takes in the wrong bits of the codes passed is 0 exactly where all of them are sound. Assumes nothing.
 use Prim.Native.Nat.{ℕ, _≤_, _-_}
+use native.Mathlib.Omega.{arith}
+use mathlib.Core.Path.{_≡_, refl, sym}
+use lib.Dec.{eqb}
+use borrow.Author.Needs.{needs}
+use Rattle.rules.specs.Tests.{Tests}
+use Rattle.lamps.specs.View.{Wide}
+use Rattle.lamps.specs.Row.{LampsSound, lamps-more}
 use Rattle.lamps.proofs.rows.all_sound.Statement.{statement}
 use Rattle.lamps.proofs.rows.all_sound.Tie as tie
 
 abbrev Inv-loop : tie.InvT-loop
-Inv-loop codes count wide i₀ i = (i ≤ count) × ((w : ℕ) → Wide w wide → LampsSound w codes i)
+Inv-loop codes count wide wrong₀ i₀ wrong i = (i ≤ count) × ((w : ℕ) → Wide w wide → Tests (eqb wrong 0) (LampsSound w codes i))
 
 abbrev μ-loop : tie.MeasureT-loop
-μ-loop codes count wide i₀ i = count - i
+μ-loop codes count wide wrong₀ i₀ wrong i = count - i
 
 loop-holds : tie.Need-loop-holds Inv-loop μ-loop
-loop-holds c = (omega arith, λ w W j k h. absurd (omega arith))
+loop-holds c = (omega arith, λ w W. record { so = λ e j k h. absurd (omega arith); back = λ _. refl })
 
-mul-code : tie.Need-mul-code Inv-loop μ-loop
-mul-code c = search needs
+mul-wrong-bits : tie.Need-mul-wrong-bits Inv-loop μ-loop
+mul-wrong-bits c = search needs
 
-shared-slice-read-code : tie.Need-shared-slice-read-code Inv-loop μ-loop
-shared-slice-read-code c = omega (arith, c .before .before .before .before .pre)
+shared-slice-read-wrong-bits : tie.Need-shared-slice-read-wrong-bits Inv-loop μ-loop
+shared-slice-read-wrong-bits c = omega (arith, c .before .before .before .before .pre)
 
-lamps-sound-requires : tie.Need-lamps-sound-requires Inv-loop μ-loop
-lamps-sound-requires c κs = tt
-
-returns : tie.Need-returns Inv-loop μ-loop
-returns c = let a = c .before .before .before .before .before .before .args in
-    let l = c .before .before .before .before .loop in
-    λ w W. lamps-beyond w (a .codes .now) (a .count) (l .i) _ (c .before .lamps-sound .ensures w W) (not-true _ (c .if1 .taken)) (c .before .before .before .loop-test .taken)
+wrong-bits-requires : tie.Need-wrong-bits-requires Inv-loop μ-loop
+wrong-bits-requires c κs = tt
 
 add-i : tie.Need-add-i Inv-loop μ-loop
 add-i c = omega arith
@@ -39,12 +35,13 @@ loop-less : tie.Need-loop-less Inv-loop μ-loop
 loop-less c = omega arith
 
 loop-again : tie.Need-loop-again Inv-loop μ-loop
-loop-again c = let a = c .before .before .before .before .before .before .args in
-    let l = c .before .before .before .before .loop in
-    (omega arith, λ w W. lamps-more w (a .codes .now) (l .i) (l .inv .1 w W) (c .before .lamps-sound .ensures w W .so (not-false _ (c .if1 .left))))
+loop-again c = let l = c .before .before .before .loop in
+    (omega arith, λ w W. lamps-more w (c .before .before .before .before .before .args .codes .now) (l .i) (l .wrong) _ (l .inv .1 w W) (c .wrong-bits .ensures w W))
 
-returns-2 : tie.Need-returns-2 Inv-loop μ-loop
-returns-2 c = λ w W. record { so = λ e i k h. c .before .loop .inv .1 w W i k (omega arith); back = λ _. refl }
+returns : tie.Need-returns Inv-loop μ-loop
+returns c =
+    let e : c .before .loop .i ≡ c .before .before .before .args .count = omega arith in
+    rw (sym e) (c .before .loop .inv .1)
 
 pub all-sound-spec : {M : Type 1} → statement M
 all-sound-spec =
@@ -53,11 +50,10 @@ all-sound-spec =
     Inv-loop
     μ-loop
     loop-holds
-    mul-code
-    shared-slice-read-code
-    lamps-sound-requires
-    returns
+    mul-wrong-bits
+    shared-slice-read-wrong-bits
+    wrong-bits-requires
     add-i
     loop-less
     loop-again
-    returns-2)
+    returns)

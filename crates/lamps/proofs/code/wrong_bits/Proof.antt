@@ -1,8 +1,8 @@
--- `lamps::code::lamps_sound` meets its contract: the laws `sound-code` and `code-sound`. Assumes nothing.
+-- `lamps::code::wrong_bits` meets its contract: the laws `sound-code` and `code-sound`. Assumes nothing.
 use borrow.Author.Tests.{eqb-true, eq-eqb}
 use Rattle.lamps.specs.Lamp.{sound-code, code-sound}
-use Rattle.lamps.proofs.code.lamps_sound.Statement.{statement}
-use Rattle.lamps.proofs.code.lamps_sound.Tie as tie
+use Rattle.lamps.proofs.code.wrong_bits.Statement.{statement}
+use Rattle.lamps.proofs.code.wrong_bits.Tie as tie
 
 returns : tie.Need-returns
 returns c = λ w W. record {
@@ -10,5 +10,5 @@ returns c = λ w W. record {
   back = λ h. eq-eqb _ 0 (code-sound w (c .args .wide) (c .args .code) W (c .fits .code .fits) h);
 }
 
-pub lamps-sound-spec : {M : Type 1} → statement M
-lamps-sound-spec = tie.close (tie.spec returns)
+pub wrong-bits-spec : {M : Type 1} → statement M
+wrong-bits-spec = tie.close (tie.spec returns)
