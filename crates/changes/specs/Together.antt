@@ -7,7 +7,7 @@ use native.Mathlib.Numerals.{add-one}
 use mathlib.Core.Path.{_≡_, refl, sym, ap, _∙_, subst}
 use mathlib.Core.Bool.{Bool, true, false, _||_, true≢false}
 use mathlib.Core.List.{List}
-use lib.ListN.{length, length-set, getD, set, List·getD-eq-default}
+use lib.ListN.{length, length-set, getD, set}
 use lib.Seq.{getD-set-same, getD-set-other}
 use lib.Dec.{eqb, ltb}
 use borrow.Author.Tests.{eqb-true, eq-eqb, ne-eqb, lt-ltb, le-ltb}
@@ -22,7 +22,7 @@ use Rattle.knowing.specs.Join.{join-swap, join-again, join-not, join-nor, join-
 use Rattle.changes.specs.declared.change.Change.{Change}
 use Rattle.changes.specs.declared.change.Change.the-variants.{Keep, Put, Meet, Forget}
 use Rattle.lamps.specs.View.{shown, held, Wide, told, met, metCode, OfByte, Puts, Meets}
-use Rattle.lamps.specs.Lamp.{none-shown, byte-none-past, byte-met-code}
+use Rattle.lamps.specs.Lamp.{byte-none-past, byte-met-code}
 use Rattle.changes.specs.Change.{among, seen, Changes, Met, Inside, loose, joinedWith, joined, TogetherWith, Together, Plain}
 
 -- A bit that keeps or takes part.
@@ -118,20 +118,13 @@ plain-joined (Put a b) y p q = absurd p
 plain-joined (Meet a by n b) y p q = absurd p
 plain-joined Forget y p q = tt
 
--- One code more is forgotten, and where the row ends all are.
+-- One code more is forgotten.
 pub forgot-more : (l : List ℕ) (n : ℕ) → ((i : ℕ) → i < n → getD l i 0 ≡ 0) → n < length l → (i : ℕ) → i < n + 1 → getD (set l n 0) i 0 ≡ 0
 forgot-more l n h room i o = go (ℕ-discrete i n)
   where
     go : Dec (i ≡ n) → getD (set l n 0) i 0 ≡ 0
     go (yes p) = rw p (getD-set-same l n 0 0 room)
     go (no p) = getD-set-other l n i 0 0 p ∙ h i (omega arith)
-
-pub forgot-all : (w : ℕ) (l : List ℕ) (n : ℕ) → ((i : ℕ) → i < n → getD l i 0 ≡ 0) → length l ≤ n → (i k : ℕ) → held w l i k ≡ unknown
-forgot-all w l n h e i k = go (decLt i n)
-  where
-    go : Dec (i < n) → held w l i k ≡ unknown
-    go (yes p) = ap (λ (c : ℕ). shown w c k) (h i p) ∙ none-shown w k
-    go (no p) = ap (λ (c : ℕ). shown w c k) (List·getD-eq-default l 0 (omega arith)) ∙ none-shown w k
 
 -- One code changed, by what it shows.
 pub set-seen : (w : ℕ) (f : ℕ → Standing → Standing) (l : List ℕ) (a x : ℕ) → a < length l → ((k : ℕ) → shown w x k ≡ f k (held w l a k)) → (i k : ℕ)

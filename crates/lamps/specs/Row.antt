@@ -1,6 +1,6 @@
 -- Rows of codes of which every bit is known or unknown. The argument: a row is known code by code, and behind it nothing is; a
 -- test of a whole row is that of one code more at each step, and a number that takes in the bits of others is 0 where all are.
-use Prim.Native.Nat.{ℕ, _+_, _<_}
+use Prim.Native.Nat.{ℕ, _+_, _<_, _≤_}
 use native.Mathlib.Omega.{arith}
 use native.Mathlib.Decide.{decLt}
 use mathlib.Core.Path.{_≡_, sym, ap, ap₂, _∙_, subst}
@@ -42,9 +42,25 @@ lamps-more w l n a b all one = record {
 }
 
 -- Where the row ends, nothing is known.
+row-end : (w : ℕ) (l : List ℕ) (i k : ℕ) → length l ≤ i → held w l i k ≡ unknown
+row-end w l i k h = ap (λ (c : ℕ). shown w c k) (List·getD-eq-default l 0 h) ∙ none-shown w k
+
 pub whole-lamps : (w : ℕ) (l : List ℕ) (n : ℕ) → length l ≡ n → LampsSound w l n → (i k : ℕ) → Within 2 (held w l i k)
 whole-lamps w l n e h i k = go (decLt i n)
   where
     go : Dec (i < n) → Within 2 (held w l i k)
     go (yes p) = h i k p
-    go (no p) = subst (λ (s : Standing). Within 2 s) (sym (ap (λ (c : ℕ). shown w c k) (List·getD-eq-default l 0 (omega arith)) ∙ none-shown w k)) tt
+    go (no p) = subst (λ (s : Standing). Within 2 s) (sym (row-end w l i k (omega arith))) tt
+
+-- One code more is 0, and where all are, nothing is known.
+pub noughts-more : (l : List ℕ) (n a : ℕ) → (a ≡ 0 → (i : ℕ) → i < n → getD l i 0 ≡ 0) → bitOr a (getD l n 0) ≡ 0 → (i : ℕ) → i < n + 1 → getD l i 0 ≡ 0
+noughts-more l n a all e =
+    let z = or-none a (getD l n 0) e in
+    below-more (λ (i : ℕ). getD l i 0 ≡ 0) n (all (z .0)) (z .1)
+
+pub noughts-held : (w : ℕ) (l : List ℕ) (n : ℕ) → ((i : ℕ) → i < n → getD l i 0 ≡ 0) → length l ≤ n → (i k : ℕ) → held w l i k ≡ unknown
+noughts-held w l n h e i k = go (decLt i n)
+  where
+    go : Dec (i < n) → held w l i k ≡ unknown
+    go (yes p) = ap (λ (c : ℕ). shown w c k) (h i p) ∙ none-shown w k
+    go (no p) = row-end w l i k (omega arith)

@@ -14,3 +14,4 @@ pub use code::lamps_sound;
 pub use code::meet_code;
 pub use code::put_byte;
 pub use rows::all_sound;
+pub use rows::none_known;

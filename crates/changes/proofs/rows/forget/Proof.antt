@@ -4,7 +4,8 @@ use Prim.Native.Nat.{ℕ, _<_, _≤_, _-_}
 use native.Mathlib.Omega.{arith}
 use mathlib.Core.Path.{_≡_, _∙_}
 use lib.ListN.{length, length-set, getD}
-use Rattle.changes.specs.Together.{forgot-more, forgot-all}
+use Rattle.lamps.specs.Row.{noughts-held}
+use Rattle.changes.specs.Together.{forgot-more}
 use Rattle.changes.proofs.rows.forget.Statement.{statement}
 use Rattle.changes.proofs.rows.forget.Tie as tie
 
@@ -41,7 +42,7 @@ same-length : tie.Need-same-length Inv-loop μ-loop
 same-length c = search needs
 
 returns : tie.Need-returns Inv-loop μ-loop
-returns c = λ w. forgot-all w (c .before .loop .codes) (c .before .loop .i) (c .before .loop .inv .2) (omega arith)
+returns c = λ w. noughts-held w (c .before .loop .codes) (c .before .loop .i) (c .before .loop .inv .2) (omega arith)
 
 pub forget-spec : {M : Type 1} → statement M
 forget-spec =
