@@ -9,7 +9,7 @@ use Rattle.rules.specs.Choice.{whether}
 use Rattle.rules.specs.Digit.{digit}
 use Rattle.knowing.specs.Standing.{Standing, known, unknown}
 use Rattle.knowing.specs.Know.{join}
-use Rattle.knowing.specs.Join.{join-swap, join-late, join-nor}
+use Rattle.knowing.specs.Join.{join-swap, join-late, join-not, join-nor}
 use Rattle.lamps.specs.View.{shown, told, metCode, NonePast}
 use Rattle.changes.specs.Change.{metRun, sharedBy}
 
@@ -40,3 +40,12 @@ module _ (w : ℕ) (b : ℕ → ℕ) where
 
     pub shared-met-code : (k : ℕ) (s : Standing) → metCode w c k s ≡ metRun w b (suc n) k s
     shared-met-code k s = ap (λ (x : Standing). whether (ltb k w) (join s x) s) (h k) ∙ met-shared n k s
+
+-- Of what is unknown no run leaves anything.
+pub met-none : (w : ℕ) (b : ℕ → ℕ) (n k : ℕ) (s : Standing) → s ≡ unknown → metRun w b n k s ≡ unknown
+met-none w b zero k s e = e
+met-none w b (suc n) k s e = go (ltb k w) (metRun w b n k s) (met-none w b n k s e)
+  where
+    go : (t : Bool) (x : Standing) → x ≡ unknown → whether t (join x (known (digit k (b n)))) x ≡ unknown
+    go true x u = sym (join-not x (known (digit k (b n))) u)
+    go false x u = u

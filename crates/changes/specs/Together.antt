@@ -34,7 +34,7 @@ again : (t : Bool) (s x : Standing) → whether t (join s x) s ≡ join s (wheth
 again true s x = sym (join-swap s (join s x) ∙ ap (λ (y : Standing). join y s) (join-swap s x) ∙ join-again x s ∙ join-swap x s)
 again false s x = sym (join-itself s)
 
-one-place : (a i : ℕ) → among a 1 1 i ≡ eqb i a
+pub one-place : (a i : ℕ) → among a 1 1 i ≡ eqb i a
 one-place a i =
     let z : a + 1 * 0 ≡ a = omega arith in
     rw z (or-false (eqb i a))
@@ -44,7 +44,7 @@ one-place a i =
     or-false false = refl
 
 -- A byte that may have been put.
-met-told : (w b k : ℕ) (s : Standing) → met w b k s ≡ join s (told w b k s)
+pub met-told : (w b k : ℕ) (s : Standing) → met w b k s ≡ join s (told w b k s)
 met-told w b k s = by-test (ltb k w) s (known (digit k b))
 
 met-again : (w b k : ℕ) (s : Standing) → met w b k s ≡ join s (met w b k s)
@@ -54,7 +54,7 @@ either : (t : Bool) (s x y : Standing) → x ≡ join s y → whether t x s ≡ 
 either true s x y e = e
 either false s x y e = sym (join-itself s)
 
-loose-seen : (w : ℕ) (x : Change) (i k : ℕ) (s : Standing) → seen w (loose x) i k s ≡ join s (seen w x i k s)
+pub loose-seen : (w : ℕ) (x : Change) (i k : ℕ) (s : Standing) → seen w (loose x) i k s ≡ join s (seen w x i k s)
 loose-seen w Keep i k s = sym (join-itself s)
 loose-seen w (Put a b) i k s = rw (one-place (a .0) i) (either (eqb i (a .0)) s _ _ (met-told w b k s))
 loose-seen w (Meet a by n b) i k s = either (among (a .0) by n i) s _ _ (met-again w b k s)
@@ -72,7 +72,7 @@ joined-seen w (Put a b) y t i k s = with-seen w (Put a b) y t i k s
 joined-seen w (Meet a by n b) y t i k s = with-seen w (Meet a by n b) y t i k s
 joined-seen w Forget y t i k s = join-not unknown (seen w y i k s) refl
 
-loose-inside : (room : ℕ) (x : Change) → Inside room x → Inside room (loose x)
+pub loose-inside : (room : ℕ) (x : Change) → Inside room x → Inside room (loose x)
 loose-inside room Keep h = h
 loose-inside room (Put a b) h = (omega arith, λ j l. omega arith)
 loose-inside room (Meet a by n b) h = h
@@ -231,7 +231,7 @@ module _ {F : Type 0} (same? : Discrete F) (numbered : ℕ → ℕ → F) (apart
 
 -- The same for a single byte, as the LED is.
 module _ {F : Type 0} (same? : Discrete F) (at : ℕ → F) (apart : (i j : ℕ) → at i ≡ at j → i ≡ j) (v : F → Standing) where
-  bits-told : (w b k : ℕ) → told w b k (v (at k)) ≡ lifted v (setBits same? at w b keep (at k))
+  pub bits-told : (w b k : ℕ) → told w b k (v (at k)) ≡ lifted v (setBits same? at w b keep (at k))
   bits-told w b k = go (decLt k w)
     where
       go : Dec (k < w) → told w b k (v (at k)) ≡ lifted v (setBits same? at w b keep (at k))

@@ -15,7 +15,7 @@ pub enum Change {
 }
 
 // What a change that may have happened, or not, makes certain.
-fn loosened(change: Change) -> Change
+pub fn loosened(change: Change) -> Change
     ensures { λ r. ⌜ r ≡ loose change ⌝ }
 {
     match change {

@@ -74,7 +74,17 @@ pub fn put(codes: &mut [u16], wide: u16, cell: Address, byte: u8)
     codes[i] = put_byte(wide, codes[i], byte);
 }
 
-fn forget(codes: &mut [u16])
+// A byte may have gone to this code.
+pub fn meet_one(codes: &mut [u16], wide: u16, cell: Address, byte: u8)
+    requires { ⌜ cell .0 < length (now codes) ⌝ }
+    ensures { λ r. ⌜ ((w : ℕ) → Wide w wide → Changes w (Meet cell 1 1 byte) (now (codes .entry)) (now (codes .exit))) ⌝ }
+{
+    let i = cell.0 as usize;
+    codes[i] = meet_code(wide, codes[i], code_of(wide, byte));
+}
+
+// No code says anything any more.
+pub fn forget(codes: &mut [u16])
     ensures { λ r. ⌜ ((w i k : ℕ) → held w (now (codes .exit)) i k ≡ unknown) ⌝ }
 {
     let mut i = 0;

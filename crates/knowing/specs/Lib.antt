@@ -13,3 +13,4 @@ pub mod Range
 pub mod Event
 pub mod Turn
 pub mod Steps
+pub mod Lost

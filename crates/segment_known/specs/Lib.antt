@@ -2,4 +2,5 @@ pub mod Ways
 pub mod Stored
 pub mod Cells
 pub mod Moved
+pub mod Writes
 pub mod Everyday

@@ -2,17 +2,18 @@
 use Prim.Native.Nat.{ℕ, zero, suc, _/_, _%_, _<_, _≤_}
 use native.Mathlib.Omega.{arith}
 use native.Mathlib.Decide.{ℕ-discrete}
-use mathlib.Core.Path.{_≡_, refl, sym, _∙_, subst⁻¹}
+use mathlib.Core.Path.{_≡_, refl, sym, ap, _∙_, subst⁻¹}
 use mathlib.Core.Bool.{Bool, true, false}
+use lib.Dec.{eqb}
 use borrow.Author.Tests.{eq-eqb, ne-eqb}
 use Rattle.rules.specs.Choice.{whether, bit, of2, of4, of4-all}
 use Rattle.rules.specs.Rule.{Rule, gives, look}
 use Rattle.knowing.specs.Standing as Of
 use Rattle.knowing.specs.Know.{lifted, learn, join, common, know}
-use Rattle.knowing.specs.Join.{common-same, common-two, common-apart}
+use Rattle.knowing.specs.Join.{join-itself, common-same, common-two, common-apart}
 use Rattle.knowing.specs.Look.{look-unknown}
 use Rattle.knowing.specs.Ways as Ways
-use Rattle.knowing.specs.Ways.{Way, Becomes, Joins}
+use Rattle.knowing.specs.Ways.{Way, Becomes, Joins, known-way}
 use Rattle.segment.specs.declared.chip.Sizes.{Sizes}
 use Rattle.segment.specs.declared.chip.Position.the-variants.{Ignoring}
 use Rattle.segment.specs.declared.chip.Display.the-variants.{Off}
@@ -28,6 +29,8 @@ use Rattle.segment.specs.Fact.{Fact, same?, range, cell, address, dataMode, ste
 use Rattle.segment.specs.Laws.{every}
 use Rattle.segment.specs.Move.{sets, then, nothing, toMode, counted}
 use Rattle.standing.specs.View.{stands}
+use Rattle.standing.specs.declared.standing.Standing.{Standing}
+use Rattle.standing.specs.declared.standing.Standing.the-variants.{Known}
 use Rattle.segment_knowledge.specs.declared.control.Control.{Control as Beside}
 use Rattle.segment_knowledge.specs.View.{cview}
 use Rattle.segment_steps.specs.Step.{Keeps}
@@ -109,8 +112,29 @@ small s b =
 pub mode-small : (s : Sizes) (b m : ℕ) → Mode m ≡ commandOf s b → m ≤ s .top
 mode-small s b m e = subst⁻¹ (λ (c : Command). codeOf c ≤ s .top) e (small s b)
 
+-- What is known of the display when a command names the mode m.
+abbrev pub displayIn : Of.Standing → ℕ → Of.Standing → Of.Standing
+displayIn (Of.known old) m shown = whether (eqb old m) shown (Of.known (shows Off))
+displayIn Of.unknown m shown = join shown (Of.known (shows Off))
+
+-- The same in mode m, with that known of the display, and ignoring.
+abbrev pub inMode : Beside → ℕ → Standing → Beside
+inMode c m shown = record {
+  address = c .address;
+  «data» = c .«data»;
+  stepping = c .stepping;
+  mode = Known m;
+  dimming = c .dimming;
+  display = shown;
+  led = c .led;
+  keys = c .keys;
+  switches = c .switches;
+  count = c .count;
+  position = Known 3;
+}
+
 -- An unknown mode: it may be the one that the byte names, and then only the position changes, or another, and then the display goes off too.
-pub mode-unknown : (s : Sizes) (c r a b : Beside) (m : ℕ) → m ≤ s .top → 1 ≤ s .top → stands (c .mode) ≡ Of.unknown → (cells : ℕ → ℕ → Of.Standing) → Joins (cview cells) a b r
+mode-unknown : (s : Sizes) (c r a b : Beside) (m : ℕ) → m ≤ s .top → 1 ≤ s .top → stands (c .mode) ≡ Of.unknown → (cells : ℕ → ℕ → Of.Standing) → Joins (cview cells) a b r
     → Way (cview cells) (cview cells) same? (range s) (gives (then Ignoring)) c mode m a → Becomes (cview cells) (sets mode m (sets display (shows Off) (then Ignoring))) c b
     → Ways.Knows (cview cells) (cview cells) same? (range s) (look mode (toMode m)) c r
 mode-unknown s c r a b m small room u cells e p q f =
@@ -136,3 +160,21 @@ pub top-room : (p : Family) → 1 ≤ sizes p .top
 unfolding sizes
 top-room Pt6312 = omega arith
 top-room Pt6315 = omega arith
+
+-- A mode command, whatever is known of the mode so far.
+pub mode-set : (s : Sizes) (c : Beside) (m : ℕ) (shown : Standing) → m ≤ s .top → 1 ≤ s .top → stands shown ≡ displayIn (stands (c .mode)) m (stands (c .display))
+    → Keeps s (look mode (toMode m)) c (inMode c m shown)
+mode-set s c m shown small room e cells = go (stands (c .mode)) refl e
+  where
+    one : (v : ℕ) → stands (c .mode) ≡ Of.known v → stands shown ≡ whether (eqb v m) (stands (c .display)) (Of.known (shows Off)) → Dec (v ≡ m)
+        → Ways.Knows (cview cells) (cview cells) same? (range s) (toMode m v) c (inMode c m shown)
+    one v u d (yes p) = rw (eq-eqb v m p) (every _ (λ i k. refl) refl refl refl (ap Of.known (sym p) ∙ sym u) refl (rw (eq-eqb v m p) at d) (λ k. refl) (λ i. refl) refl refl refl)
+    one v u d (no n) = rw (ne-eqb v m n) (every _ (λ i k. refl) refl refl refl refl refl (rw (ne-eqb v m n) at d) (λ k. refl) (λ i. refl) refl refl refl)
+
+    go : (t : Of.Standing) → stands (c .mode) ≡ t → stands shown ≡ displayIn t m (stands (c .display)) → Ways.Knows (cview cells) (cview cells) same? (range s) (look mode (toMode m)) c (inMode c m shown)
+    go (Of.known v) u d = known-way (cview cells) (cview cells) same? (range s) mode (toMode m) c (inMode c m shown) v u (one v u d (ℕ-discrete v m))
+    go Of.unknown u d =
+        mode-unknown s c (inMode c m shown) (inMode c m (c .display)) (inMode c m (Known 0)) m small room u cells
+        (every _ (λ i k. sym (join-itself _)) (sym (join-itself _)) (sym (join-itself _)) (sym (join-itself _)) (sym (join-itself _)) (sym (join-itself _)) d (λ k. sym (join-itself _)) (λ i. sym (join-itself _)) (sym (join-itself _)) (sym (join-itself _)) (sym (join-itself _)))
+        (every _ (λ i k. refl) refl refl refl refl refl refl (λ k. refl) (λ i. refl) refl refl refl)
+        (every _ (λ i k. refl) refl refl refl refl refl refl (λ k. refl) (λ i. refl) refl refl refl)

@@ -18,12 +18,11 @@ use segment_knowledge::READ_KEYS;
 use segment_knowledge::READ_SWITCHES;
 use segment_knowledge::WRITE_DISPLAY;
 use segment_knowledge::WRITE_LED;
-use segment_knowledge::at;
 use segment_steps::Step;
-use segment_steps::both;
 use segment_steps::forgotten;
 use segment_steps::kept;
 use standing::Standing;
+use standing::both_standing;
 ghost use mathlib.Core.Path.{_≡_};
 ghost use Prim.Native.Nat.{_≤_};
 ghost use Rattle.rules.specs.Rule.{gives, look};
@@ -36,6 +35,8 @@ ghost use Rattle.segment_knowledge.specs.View.{points};
 ghost use Rattle.changes.specs.Change.{Plain};
 ghost use Rattle.segment_steps.specs.Step.{Steps, Keeps, Forgets};
 ghost use Rattle.knowing.specs.Standing.{known};
+ghost use Rattle.standing.specs.View.{stands};
+ghost use Rattle.segment_known.specs.Ways.{displayIn};
 
 pub fn first_in(family: Family, c: Control, byte: u8) -> Step
     ensures { λ r. ⌜ (Steps (sizes family) (commanded (commandOf (sizes family) byte)) c r) × (Plain (r .change)) ⌝ }
@@ -51,7 +52,7 @@ pub fn first_in(family: Family, c: Control, byte: u8) -> Step
     }
 }
 
-fn data_set(family: Family, c: Control, data: Data, stepping: Stepping) -> Control
+pub fn data_set(family: Family, c: Control, data: Data, stepping: Stepping) -> Control
     ensures { λ r. ⌜ Keeps (sizes family) (commanded (Command.Setting «data» stepping)) c r ⌝ }
 {
     let mode = data_number(data);
@@ -66,7 +67,7 @@ fn data_set(family: Family, c: Control, data: Data, stepping: Stepping) -> Contr
 }
 
 // The data mode is anything.
-fn stepping_set(family: Family, c: Control, stepping: Stepping) -> Control
+pub fn stepping_set(family: Family, c: Control, stepping: Stepping) -> Control
     ensures { λ r. ⌜ Keeps (sizes family) (commanded (Command.AnySetting stepping)) c r ⌝ }
 {
     let step = step_number(stepping);
@@ -79,7 +80,7 @@ fn stepping_set(family: Family, c: Control, stepping: Stepping) -> Control
     }
 }
 
-fn display_set(family: Family, c: Control, dimming: u8, display: Display) -> Control
+pub fn display_set(family: Family, c: Control, dimming: u8, display: Display) -> Control
     ensures { λ r. ⌜ Keeps (sizes family) (commanded (Command.Control dimming display)) c r ⌝ }
 {
     let shown = display_number(display);
@@ -91,7 +92,7 @@ fn display_set(family: Family, c: Control, dimming: u8, display: Display) -> Con
     }
 }
 
-fn address_set(family: Family, c: Control, to: Pointer) -> Control
+pub fn address_set(family: Family, c: Control, to: Pointer) -> Control
     ensures { λ r. ⌜ Keeps (sizes family) (commanded (Command.Start to)) c r ⌝ }
 {
     let address = known_pointing(to);
@@ -141,35 +142,38 @@ pub fn known_pointing(address: Pointer) -> Pointing
 }
 
 // An unknown mode may be the one that the byte names, or any other.
-fn to_mode(family: Family, c: Control, code: u8) -> Control
+pub fn to_mode(family: Family, c: Control, code: u8) -> Control
     requires { ⌜ code ≤ sizes family .top ⌝ }
     ensures { λ r. ⌜ Keeps (sizes family) (look mode (toMode code)) c r ⌝ }
 {
-    let new = at(
-        Control {
-            mode: Standing::Known(code),
-            display: Standing::Known(OFF),
-            ..c
-        },
-        IGNORING,
-    );
     let old = c.mode;
-    match old {
-        Standing::Known(mode) => { if mode == code { at(c, IGNORING) } else { new } }
-        Standing::Unknown => {
-            let kept = at(
-                Control {
-                    mode: Standing::Known(code),
-                    ..c
-                },
-                IGNORING,
-            );
-            both(kept, new)
-        }
+    let shown = c.display;
+    let display = display_in(old, code, shown);
+    Control {
+        mode: Standing::Known(code),
+        display,
+        position: Standing::Known(IGNORING),
+        ..c
     }
 }
 
-fn in_test(family: Family, c: Control) -> Control
+// What is known of the display when a mode command has come: another mode turns it off.
+fn display_in(old: Standing, code: u8, shown: Standing) -> Standing
+    ensures { λ r. ⌜ stands r ≡ displayIn (stands old) code (stands shown) ⌝ }
+{
+    match old {
+        Standing::Known(mode) => {
+            if mode == code {
+                shown
+            } else {
+                Standing::Known(OFF)
+            }
+        }
+        Standing::Unknown => both_standing(shown, Standing::Known(OFF)),
+    }
+}
+
+pub fn in_test(family: Family, c: Control) -> Control
     ensures { λ r. ⌜ Forgets (sizes family) (gives tested) c r ⌝ }
 {
     Control {

@@ -1,12 +1,11 @@
-// The events of every day, each in a function small enough to stand in the loop over the records: the strobe, and a byte
-// whose way is known.
-use crate::commanded::first_in;
-use crate::commanded::known_pointing;
-use changes::apply;
-use changes::meet_all;
+// The events of every day, each in a function small enough to stand in the loop over the records: the strobe, and bytes whose way is known.
+use changes::meet_run;
 use lamps::EIGHT;
+use lamps::FOUR;
+use lamps::code_of;
+use lamps::meet_code;
+use lamps::put_byte;
 use segment::Family;
-use segment::behind;
 use segment_knowledge::Control;
 use segment_knowledge::FIRST;
 use segment_knowledge::IDLE;
@@ -14,29 +13,33 @@ use segment_knowledge::INCREMENT;
 use segment_knowledge::OPEN;
 use segment_knowledge::Pointing;
 use segment_knowledge::WRITE_DISPLAY;
+use segment_knowledge::WRITE_LED;
 use segment_knowledge::at;
 use standing::Standing;
+use standing::is_known;
 use terms::Address;
 ghost use mathlib.Core.Path.{_≡_};
-ghost use mathlib.Core.Bool.{true};
-ghost use Prim.Native.Nat.{ℕ};
+ghost use mathlib.Core.Bool.{Bool, true};
+ghost use Prim.Native.Nat.{ℕ, _+_, _≤_};
 ghost use lib.ListN.{length};
-ghost use Rattle.knowing.specs.Standing.{known};
+ghost use Rattle.knowing.specs.Standing.{known, unknown};
 ghost use Rattle.standing.specs.View.{stands};
-ghost use Rattle.changes.specs.Change.{Changes};
-ghost use Rattle.changes.specs.declared.change.Change.the-variants.{Put, Meet};
-ghost use Rattle.terms.specs.declared.Event.the-variants.{Falls, Rises, ByteIn};
+ghost use Rattle.changes.specs.Change.{Met};
+ghost use Rattle.terms.specs.declared.Event.the-variants.{Falls, Rises};
 ghost use Rattle.segment.specs.declared.chip.Sizes.{Sizes};
 ghost use Rattle.segment.specs.Family.{sizes};
-ghost use Rattle.segment.specs.Move.{move};
-ghost use Rattle.segment.specs.declared.chip.Position.the-variants.{First, Open};
+ghost use Rattle.rules.specs.Rule.{gives};
+ghost use Rattle.rules.specs.Change.{keep};
+ghost use Rattle.segment.specs.Move.{lights, move};
+ghost use Rattle.segment.specs.declared.chip.Position.the-variants.{Open};
 ghost use Rattle.segment.specs.Value.{at-position};
-ghost use Rattle.segment_knowledge.specs.View.{points, Knows};
-ghost use Rattle.segment_steps.specs.Step.{Keeps, Steps};
-ghost use Rattle.segment_known.specs.Everyday.{Counting, Hits, HitsAt};
+ghost use Rattle.segment_knowledge.specs.View.{points};
+ghost use Rattle.segment_steps.specs.Step.{Keeps};
+ghost use Rattle.segment_known.specs.Everyday.{Hits, HitsAt, PerhapsAt, ring, PerhapsLit, perhapsOn, PerhapsStepped, Lost};
+ghost use Rattle.segment_known.specs.Writes.{writing, pointing};
 
 pub fn falls(c: Control) -> Control
-    ensures { λ r. ⌜ ((s : Sizes) → Keeps s (move s Falls) c r) ⌝ }
+    ensures { λ r. ⌜ ((s : Sizes) → Keeps s (move s Falls) c r) × (stands (r .position) ≡ known 1) ⌝ }
 {
     at(c, FIRST)
 }
@@ -47,16 +50,22 @@ pub fn rises(c: Control) -> Control
     at(c, IDLE)
 }
 
-// Where a data byte goes, as far as the events of every day ask.
+// Where bytes go that are clocked in, as far as the events of every day ask.
 pub enum Target {
     // To this cell, and the next byte to the one behind it, round the ring.
     Cell(Address),
     // To any cell, or none.
     Anywhere,
-    // It is ignored.
+    // To any cell, or to the LED, or nowhere.
+    Perhaps,
+    // To this cell, or to the LED, or nowhere.
+    PerhapsCell(Address),
+    // To the LED, or nowhere.
+    PerhapsLed,
+    // They change nothing.
     Nowhere,
-    // It is a command.
-    Command,
+    // To the LED.
+    Led,
     Elsewhere,
 }
 
@@ -67,7 +76,7 @@ pub fn goes_to(family: Family, c: Control) -> Target
     match position {
         Standing::Known(place) => match place {
             OPEN => goes_open(family, c),
-            FIRST => Target::Command,
+            FIRST => Target::Elsewhere,
             _ => Target::Nowhere,
         },
         Standing::Unknown => Target::Elsewhere,
@@ -79,20 +88,38 @@ fn goes_open(family: Family, c: Control) -> Target
     ensures { λ r. ⌜ Hits (sizes family) c r ⌝ }
 {
     let data = c.data;
-    if is(data, WRITE_DISPLAY) {
-        let address = c.address;
-        let stepping = c.stepping;
-        return goes_at(family, address, is(stepping, INCREMENT));
+    match data {
+        Standing::Known(mode) => match mode {
+            WRITE_DISPLAY => {
+                let address = c.address;
+                let stepping = c.stepping;
+                goes_at(family, address, is_known(stepping, INCREMENT))
+            }
+            WRITE_LED => Target::Led,
+            _ => Target::Nowhere,
+        },
+        Standing::Unknown => {
+            let address = c.address;
+            perhaps_at(family, address)
+        }
     }
-    Target::Elsewhere
 }
 
-fn is(fact: Standing, value: u8) -> bool
-    ensures { λ r. ⌜ (r ≡ true → stands fact ≡ known value) ⌝ }
+// The data mode is unknown.
+fn perhaps_at(family: Family, address: Pointing) -> Target
+    ensures { λ r. ⌜ PerhapsAt (sizes family) (points address) r ⌝ }
 {
-    match fact {
-        Standing::Known(v) => v == value,
-        Standing::Unknown => false,
+    match address {
+        Pointing::At(cell) => {
+            let sizes = family.sizes();
+            if cell.0 < sizes.cells {
+                Target::PerhapsCell(cell)
+            } else {
+                Target::Elsewhere
+            }
+        }
+        Pointing::Invalid => Target::PerhapsLed,
+        Pointing::Unknown => Target::Perhaps,
     }
 }
 
@@ -109,39 +136,112 @@ fn goes_at(family: Family, address: Pointing, counting: bool) -> Target
             }
             Target::Elsewhere
         }
-        Pointing::Invalid => Target::Elsewhere,
+        Pointing::Invalid => Target::Nowhere,
         Pointing::Unknown => Target::Anywhere,
     }
 }
 
-// The byte is stored in that cell, and the next goes behind it.
-pub fn counted_on(family: Family, c: Control, cell: Address) -> Control
-    requires { ⌜ Counting (sizes family) c (cell .0) ⌝ }
-    ensures { λ r. ⌜ ((b : ℕ) → Steps (sizes family) (move (sizes family) (ByteIn b)) c (record { control = r; change = Put cell b })) ⌝ }
+// So many bytes are stored from a cell on, up to the last one at most, and the next goes behind them.
+pub fn counted_on(family: Family, c: Control, cell: Address, count: usize) -> Control
+    requires { ⌜ cell .0 + count ≤ sizes family .cells ⌝ }
+    ensures { λ r. ⌜ r ≡ pointing c (ring (sizes family) (cell .0 + count)) ⌝ }
 {
-    let address = known_pointing(behind(family, cell));
+    let sizes = family.sizes();
+    let next = cell.0 as usize + count;
+    let address = if next < sizes.cells as usize {
+        Pointing::At(Address(next as u8))
+    } else {
+        Pointing::At(Address(0))
+    };
     Control { address, ..c }
 }
 
-// The byte may have gone to any cell: each keeps what it has in common with it. Each part has a loop of its own, whose end is a number that the compiler
-// knows, so that it leaves no cells over.
-pub fn meets(family: Family, cells: &mut [u16], byte: u8)
+// Each of a run of bytes may have gone to any cell: each cell keeps what it has in common with what they have in common. Each part has a loop of its own, whose end
+// is a number that the compiler knows, so that it leaves no cells over.
+pub fn meets(family: Family, cells: &mut [u16], code: u16)
     requires { ⌜ length (now cells) ≡ 36 ⌝ }
-    ensures { λ r. ⌜ Changes 8 (Meet (record { 0 = 0 }) 1 (sizes family .cells) byte) (now (cells .entry)) (now (cells .exit)) ⌝ }
+    ensures { λ r. ⌜ Met 65535 code (now (cells .entry)) 0 1 (sizes family .cells) (now (cells .exit)) ⌝ }
 {
     match family {
-        Family::Pt6312 => meet_all(cells, EIGHT, Address(0), 1, 22, byte),
-        Family::Pt6315 => meet_all(cells, EIGHT, Address(0), 1, 36, byte),
+        Family::Pt6312 => meet_run(cells, EIGHT, 0, 22, code),
+        Family::Pt6315 => meet_run(cells, EIGHT, 0, 36, code),
     }
 }
 
-// The byte is a command.
-pub fn command_in(family: Family, c: Control, cells: &mut [u16], byte: u8) -> Control
-    requires { ⌜ (stands (c .position) ≡ known (at-position First)) × (length (now cells) ≡ 36) ⌝ }
-    ensures { λ r. ⌜ Knows (sizes family) (move (sizes family) (ByteIn byte)) (record { cells = now (cells .entry); control = c }) (record { cells = now (cells .exit); control = r }) ⌝ }
+// The byte goes to the LED.
+pub fn lit(c: Control, byte: u8) -> Control
+    ensures { λ r. ⌜ ((s : Sizes) → Keeps s (gives (lights byte keep)) c r) ⌝ }
 {
-    let next = first_in(family, c, byte);
-    let change = next.change;
-    apply(cells, EIGHT, change);
-    next.control
+    let old = c.led;
+    let led = put_byte(FOUR, old, byte);
+    Control { led, ..c }
+}
+
+// The byte may have gone to the LED.
+pub fn perhaps_lit(c: Control, byte: u8) -> Control
+    ensures { λ r. ⌜ PerhapsLit byte c r ⌝ }
+{
+    let old = c.led;
+    let led = meet_code(FOUR, old, code_of(FOUR, byte));
+    Control { led, ..c }
+}
+
+// The byte may have gone to that cell, and the address may have stepped on behind it.
+pub fn perhaps_stepped(c: Control, cell: Address) -> Control
+    ensures { λ r. ⌜ PerhapsStepped (cell .0) c r ⌝ }
+{
+    let stepping = c.stepping;
+    let address = perhaps_behind(cell, stepping);
+    Control { address, ..c }
+}
+
+fn perhaps_behind(cell: Address, stepping: Standing) -> Pointing
+    ensures { λ r. ⌜ points r ≡ perhapsOn (cell .0) (stands stepping) ⌝ }
+{
+    match stepping {
+        Standing::Known(step) => match step {
+            INCREMENT => Pointing::Unknown,
+            _ => Pointing::At(cell),
+        },
+        Standing::Unknown => Pointing::Unknown,
+    }
+}
+
+// Nothing is left that a byte clocked in could change, where nothing is known of the cells: events were lost, and since then keys and switches may have been latched.
+pub fn nothing_left(c: Control) -> bool
+    ensures { λ r. ⌜ (r ≡ true → Lost c) ⌝ }
+{
+    let address = c.address;
+    let data = c.data;
+    let stepping = c.stepping;
+    let mode = c.mode;
+    let dimming = c.dimming;
+    let display = c.display;
+    let count = c.count;
+    let position = c.position;
+    if is_any(position) && is_any(data) && is_any(stepping) && is_any(mode) {
+        if is_any(dimming) && is_any(display) && is_any(count) && c.led == 0 {
+            return is_anywhere(address);
+        }
+    }
+    false
+}
+
+fn is_any(fact: Standing) -> bool
+    ensures { λ r. ⌜ (r ≡ true → stands fact ≡ unknown) ⌝ }
+{
+    match fact {
+        Standing::Known(_) => false,
+        Standing::Unknown => true,
+    }
+}
+
+fn is_anywhere(address: Pointing) -> bool
+    ensures { λ r. ⌜ (r ≡ true → points address ≡ unknown) ⌝ }
+{
+    match address {
+        Pointing::At(_) => false,
+        Pointing::Invalid => false,
+        Pointing::Unknown => true,
+    }
 }

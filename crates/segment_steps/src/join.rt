@@ -76,7 +76,7 @@ fn both_settings(a: Control, b: Control) -> Control
     }
 }
 
-fn both_pointing(a: Pointing, b: Pointing) -> Pointing
+pub fn both_pointing(a: Pointing, b: Pointing) -> Pointing
     ensures { λ r. ⌜ points r ≡ join (points a) (points b) ⌝ }
 {
     match a {

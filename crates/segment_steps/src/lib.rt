@@ -3,6 +3,7 @@ mod join;
 mod steps;
 
 pub use join::both;
+pub use join::both_pointing;
 pub use steps::Step;
 pub use steps::both_steps;
 pub use steps::forgotten;

@@ -28,6 +28,10 @@ module _ {F : Type 0} (same? : Discrete F) (range : F → ℕ) (move : Event →
   pub kept-as : (w : Walk) (first : F → Standing) (u v : Walk) (k : F → Standing) → u ≡ v → Kept w first u k → Kept w first v k
   kept-as w first u v k e h = subst (λ (x : Walk). Kept w first x k) e h
 
+  -- What is known of each fact counts, and not how it is stored.
+  pub kept-same : (w : Walk) (first : F → Standing) (u : Walk) (k l : F → Standing) → ((f : F) → k f ≡ l f) → Kept w first u k → Kept w first u l
+  kept-same w first u k l e h = record { ends = h .ends; makes = λ f. h .makes f ∙ in-turn-same same? range (map move (events u)) k l e f }
+
   -- One record more: the event that stands at a place, and what it makes of the knowledge.
   pub kept-read : (p : Part) (l : List ℕ) (i : ℕ) (w : Walk) (first k r : F → Standing) (e : Event) (n : ℕ) → i < length l → front p (drop i l) ≡ Is e n
       → ((f : F) → r f ≡ know same? range (move e) k f) → Kept w first (rest p l i) k → Kept w first (rest p l (i + n)) r

@@ -1,56 +1,73 @@
--- `segment_walks::walk` meets its contract: what is left of the walk makes of the knowledge so far, which stands in the cells and beside them, what the whole walk makes of the first one.
--- Assumes nothing.
+-- `segment_walks::walk` meets its contract: what is left of the walk makes of the knowledge so far, which stands in the cells and beside them, what the whole walk makes of the
+-- first one. Each arm takes a record, or a run of them, from one side to the other. Assumes nothing.
 use borrow.Author.Needs.{needs}
-use Prim.Native.Nat.{_+_, _≤_, _-_}
+use Prim.Native.Nat.{ℕ, _+_, _≤_, _-_}
 use native.Mathlib.Omega.{arith}
-use mathlib.Core.Path.{_≡_, refl, sym, ap, _∙_, subst}
+use mathlib.Core.Path.{_≡_, refl, sym, ap, _∙_}
 use lib.ListN.{length, drop, length-drop}
-use Rattle.recording.specs.Steps.{rest, rest-end, rest-next, rest-stops, stop-fits}
+use Rattle.recording.specs.Steps.{rest, rest-end, rest-stops, stop-fits}
 use Rattle.recording.specs.Tests.{record-fits}
-use Rattle.recording.specs.Walk.{walked, done, next}
+use Rattle.recording.specs.Walk.{walked, done}
 use Rattle.recording.specs.declared.ending.Ending.the-variants.{Stops}
 use Rattle.terms.specs.declared.Place.{Place}
-use Rattle.lamps.specs.Lamp.{wide8}
 use Rattle.segment.specs.Fact.{same?, range}
-use Rattle.segment.specs.Family.{sizes}
+use Rattle.segment.specs.Family.{sizes as sizesOf}
 use Rattle.segment.specs.Move.{move}
-use Rattle.terms.specs.declared.Event.the-variants.{ByteIn}
-use Rattle.segment.specs.declared.chip.Sizes.{Sizes}
-use Rattle.segment_knowledge.specs.declared.control.Control.{Control}
+use Rattle.segment_knowledge.specs.View.{kview}
+use Rattle.walks.specs.Kept.{kept-start, kept-as, kept-done, kept-stops}
+use mathlib.Core.Path.{subst}
 use Rattle.segment_knowledge.specs.declared.knowledge.Knowledge.{Knowledge}
-use Rattle.segment_knowledge.specs.View.{held, kview}
+use Rattle.one_record.specs.declared.glance.Everyday.{Everyday}
+use Rattle.one_record.specs.Glance.{Shows}
+use mathlib.Core.Bool.{Bool, true, false, not, true≢false}
+use mathlib.Core.List.{List}
 use mathlib.Core.Logic.{⊎-elim}
+use Rattle.terms.specs.declared.Event.the-variants.{ByteIn}
+use Rattle.lamps.specs.Lamp.{wide8}
+use Rattle.changes.specs.Change.{Changes}
+use Rattle.changes.specs.Together.{met-byte}
+use Rattle.byte_runs.specs.Putting.{PutsRun}
 use Rattle.segment.specs.Laws.{room}
+use Rattle.changes.specs.declared.change.Change.the-variants.{Meet}
+use Rattle.segment.specs.declared.chip.Sizes.{Sizes}
+use Rattle.segment.specs.Command.{commandOf}
+use Rattle.segment.specs.Move.{commanded}
+use Rattle.segment_knowledge.specs.declared.control.Control.{Control}
+use Rattle.segment_knowledge.specs.View.{held}
+use Rattle.segment_steps.specs.declared.steps.Step.{Step}
+use Rattle.segment_steps.specs.Step.{Steps, keptOf, forgottenOf}
 use Rattle.segment_known.specs.declared.everyday.Target.{Target}
-use Rattle.segment_known.specs.Everyday.{Hits, roamed, ignored}
-use Rattle.segment_known.specs.Moved.{step-done}
-use Rattle.segment_steps.specs.Step.{keptOf}
-use Rattle.segment_walks.specs.Arrives.{Arrives, arrived}
-use Rattle.walks.specs.Kept.{Kept, kept-start, kept-next, kept-as, kept-done, kept-stops}
+use Rattle.segment_known.specs.Everyday.{Hits, lights-in, drifts, drifts-lit, drifts-at, lost-deaf}
+use Rattle.segment_known.specs.Ways.{mode-small}
+use Rattle.segment_walks.specs.Arms.{Here, here-as, takes, fell, rose, lost, took, ordered, sets-by, tests-by, byte-is, unmet, passes, stores, meets-all, meets-none}
 use Rattle.segment_walks.proofs.walk.Statement.{statement}
 use Rattle.segment_walks.proofs.walk.Tie as tie
 
 abbrev Inv-loop : tie.InvT-loop
-Inv-loop part family bytes cells₀ control₀ i₀ cells control i =
-    ((i ≤ length bytes) × Kept kview same? (range (sizes family)) (move (sizes family)) (walked part bytes) (record { cells = cells₀; control = control₀ }) (rest part bytes i) (record { cells = cells; control = control })) × (length cells ≡ 36)
+Inv-loop part family bytes cells₀ control₀ sizes i₀ cells control i = (i ≤ length bytes) × Here part family bytes (record { cells = cells₀; control = control₀ }) i cells control
 
 abbrev μ-loop : tie.MeasureT-loop
-μ-loop part family bytes cells₀ control₀ i₀ cells control i = length bytes - i
+μ-loop part family bytes cells₀ control₀ sizes i₀ cells control i = length bytes - i
 
--- What a target says, of one that is another in name.
+sizes-requires : tie.Need-sizes-requires Inv-loop μ-loop
+sizes-requires c κs = search needs
+
+-- What a glance or a target says, of one that is another in name.
+shown-as : (l : List ℕ) (i : ℕ) {r s : Everyday} → r ≡ s → Shows l i r → Shows l i s
+shown-as l i e h = subst (λ (x : Everyday). Shows l i x) e h
+
 hit : (s : Sizes) (c : Control) {t u : Target} → t ≡ u → Hits s c t → Hits s c u
 hit s c e h = subst (λ (x : Target). Hits s c x) e h
 
+holds-then : (b : Bool) → not b ≡ false → b ≡ true
+holds-then true e = refl
+holds-then false e = absurd (true≢false e)
+
 loop-holds : tie.Need-loop-holds Inv-loop μ-loop
-loop-holds c = let a = c .before .args in
-    let first : Knowledge = record { cells = a .first; control = a .was } in
-    ((omega arith, kept-start kview same? (range (sizes (a .family))) (move (sizes (a .family))) (walked (a .part) (a .bytes .now)) first), search needs)
+loop-holds c = (omega arith, record { size = search needs; kept = kept-start same? _ _ _ _ })
 
-record-at-requires : tie.Need-record-at-requires Inv-loop μ-loop
-record-at-requires c κs = c .loop-test .taken
-
-enum-known-read : tie.Need-enum-known-read Inv-loop μ-loop
-enum-known-read c = search needs
+everyday-at-requires : tie.Need-everyday-at-requires Inv-loop μ-loop
+everyday-at-requires c κs = search needs
 
 enum-told : tie.Need-enum-told Inv-loop μ-loop
 enum-told c = search needs
@@ -58,14 +75,127 @@ enum-told c = search needs
 falls-requires : tie.Need-falls-requires Inv-loop μ-loop
 falls-requires c κs = search needs
 
+add-i : tie.Need-add-i Inv-loop μ-loop
+add-i c = record { fits = omega (arith, c .before .before .before .before .loop-test .taken, c .before .before .before .before .before .before .before .before .good .1 .1 .1 .1 .0) }
+
+loop-less : tie.Need-loop-less Inv-loop μ-loop
+loop-less c = omega (arith, c .before .before .before .before .loop-test .taken)
+
+loop-again : tie.Need-loop-again Inv-loop μ-loop
+loop-again c = let a = c .before .before .before .before .before .before .before .before .args in
+    let at = c .before .before .before .before .before .loop in
+    let first : Knowledge = record { cells = a .first; control = a .was } in
+    (omega (arith, c .before .before .before .before .loop-test .taken), fell (a .part) (a .family) (a .bytes .now) first (at .i) (at .cells) (at .control) _ (c .before .before .before .before .loop-test .taken) (shown-as (a .bytes .now) (at .i) (c .before .enum-told .given .1) (c .before .before .before .everyday-at .ensures)) (c .falls .ensures .0 (sizesOf (a .family))) (at .inv .1))
+
+enum-known-record : tie.Need-enum-known-record Inv-loop μ-loop
+enum-known-record c = search needs
+
+falls-requires-2 : tie.Need-falls-requires-2 Inv-loop μ-loop
+falls-requires-2 c κs = search needs
+
+command-of-requires : tie.Need-command-of-requires Inv-loop μ-loop
+command-of-requires c κs = search needs
+
+enum-known-command : tie.Need-enum-known-command Inv-loop μ-loop
+enum-known-command c = search needs
+
+to-mode-requires : tie.Need-to-mode-requires Inv-loop μ-loop
+to-mode-requires c κs = let a = c .before .before .before .before .before .before .before .before .before .before .before .before .before .args in
+    mode-small (sizesOf (a .family)) (c .before .before .before .before .before .before .record .given .0 .0) _ (sym (c .before .command .given .1) ∙ c .before .before .before .command-of .ensures)
+
 enum-told-2 : tie.Need-enum-told-2 Inv-loop μ-loop
 enum-told-2 c = search needs
+
+in-test-requires : tie.Need-in-test-requires Inv-loop μ-loop
+in-test-requires c κs = search needs
+
+slice-aggregate-forget : tie.Need-slice-aggregate-forget Inv-loop μ-loop
+slice-aggregate-forget c = search needs
+
+forget-requires : tie.Need-forget-requires Inv-loop μ-loop
+forget-requires c κs = search needs
+
+enum-known-command-2 : tie.Need-enum-known-command-2 Inv-loop μ-loop
+enum-known-command-2 c = search needs
+
+data-set-requires : tie.Need-data-set-requires Inv-loop μ-loop
+data-set-requires c κs = search needs
+
+enum-known-command-3 : tie.Need-enum-known-command-3 Inv-loop μ-loop
+enum-known-command-3 c = search needs
+
+stepping-set-requires : tie.Need-stepping-set-requires Inv-loop μ-loop
+stepping-set-requires c κs = search needs
+
+enum-known-command-4 : tie.Need-enum-known-command-4 Inv-loop μ-loop
+enum-known-command-4 c = search needs
+
+display-set-requires : tie.Need-display-set-requires Inv-loop μ-loop
+display-set-requires c κs = search needs
+
+enum-known-command-5 : tie.Need-enum-known-command-5 Inv-loop μ-loop
+enum-known-command-5 c = search needs
+
+address-set-requires : tie.Need-address-set-requires Inv-loop μ-loop
+address-set-requires c κs = search needs
+
+add-i-2 : tie.Need-add-i-2 Inv-loop μ-loop
+add-i-2 c = let a = c .before .before .before .before .before .before .before .before .before .before .before .args in
+    let at = c .before .before .before .before .before .before .before .before .loop in
+    let there = shown-as (a .bytes .now) (at .i) (c .before .before .before .before .record .given .1) (c .before .before .before .before .before .before .everyday-at .ensures) .1 .there in
+    record { fits = omega (arith, there, c .before .before .before .before .before .before .before .before .before .before .before .good .1 .1 .1 .1 .0) }
+
+loop-less-2 : tie.Need-loop-less-2 Inv-loop μ-loop
+loop-less-2 c = let a = c .before .before .before .before .before .before .before .before .before .before .before .args in
+    let at = c .before .before .before .before .before .before .before .before .loop in
+    let there = shown-as (a .bytes .now) (at .i) (c .before .before .before .before .record .given .1) (c .before .before .before .before .before .before .everyday-at .ensures) .1 .there in
+    omega (arith, there)
+
+loop-again-2 : tie.Need-loop-again-2 Inv-loop μ-loop
+loop-again-2 c = let a = c .before .before .before .before .before .before .before .before .before .before .before .args in
+    let at = c .before .before .before .before .before .before .before .before .loop in
+    let first : Knowledge = record { cells = a .first; control = a .was } in
+    let shows = shown-as (a .bytes .now) (at .i) (c .before .before .before .before .record .given .1) (c .before .before .before .before .before .before .everyday-at .ensures) in
+    let byte = c .before .before .before .before .record .given .0 .0 in
+    let begun = c .before .before .falls2 .result in
+    let is = c .before .command-of .ensures in
+    let there = shows .1 .there in
+    let order : (new : List ℕ) (x : Step) → length new ≡ 36 → Steps (sizesOf (a .family)) (commanded (commandOf (sizesOf (a .family)) byte)) begun x → Changes 8 (x .change) (at .cells) new → Here (a .part) (a .family) (a .bytes .now) first (at .i + 3) new (x .control) =
+    λ new x size steps changed. ordered (a .part) (a .family) (a .bytes .now) first (at .i) byte (at .cells) new (at .control) begun x (shows .0) (shows .1) size (c .before .before .falls2 .ensures .0 (sizesOf (a .family))) (c .before .before .falls2 .ensures .1) steps changed (at .inv .1) in (
+      omega (arith, there),
+      ⊎-elim
+          (λ x. here-as (a .part) (a .family) (a .bytes .now) first refl (x .4) (x .5) (order (at .cells) (keptOf (x .3 .result)) (at .inv .1 .size) (sets-by (a .family) byte begun _ _ _ is (x .1 .given .1) (x .3 .ensures)) (λ j k. refl)))
+          (⊎-elim
+          (λ x. here-as (a .part) (a .family) (a .bytes .now) first refl (x .6) (x .7) (order (x .4 .last .0) (forgottenOf (x .2 .result)) (x .5 .given) (tests-by (a .family) byte begun _ _ _ is (x .1 .given .1) (x .2 .ensures)) (λ j k. x .4 .ensures 8 j k)))
+          (⊎-elim
+          (λ x. here-as (a .part) (a .family) (a .bytes .now) first refl (x .4) (x .5) (order (at .cells) (keptOf (x .3 .result)) (at .inv .1 .size) (sets-by (a .family) byte begun _ _ _ is (x .1 .given .1) (x .3 .ensures)) (λ j k. refl)))
+          (⊎-elim
+          (λ x. here-as (a .part) (a .family) (a .bytes .now) first refl (x .4) (x .5) (order (at .cells) (keptOf (x .3 .result)) (at .inv .1 .size) (sets-by (a .family) byte begun _ _ _ is (x .1 .given .1) (x .3 .ensures)) (λ j k. refl)))
+          (⊎-elim
+          (λ x. here-as (a .part) (a .family) (a .bytes .now) first refl (x .4) (x .5) (order (at .cells) (keptOf (x .3 .result)) (at .inv .1 .size) (sets-by (a .family) byte begun _ _ _ is (x .1 .given .1) (x .3 .ensures)) (λ j k. refl)))
+          (λ x. here-as (a .part) (a .family) (a .bytes .now) first refl (x .4) (x .5) (order (at .cells) (keptOf (x .3 .result)) (at .inv .1 .size) (sets-by (a .family) byte begun _ _ _ is (x .1 .given .1) (x .3 .ensures)) (λ j k. refl))))))) (c .match2 .came),
+    )
+
+enum-told-3 : tie.Need-enum-told-3 Inv-loop μ-loop
+enum-told-3 c = search needs
 
 rises-requires : tie.Need-rises-requires Inv-loop μ-loop
 rises-requires c κs = search needs
 
-enum-known-event : tie.Need-enum-known-event Inv-loop μ-loop
-enum-known-event c = search needs
+add-i-3 : tie.Need-add-i-3 Inv-loop μ-loop
+add-i-3 c = record { fits = omega (arith, c .before .before .before .before .loop-test .taken, c .before .before .before .before .before .before .before .before .good .1 .1 .1 .1 .0) }
+
+loop-less-3 : tie.Need-loop-less-3 Inv-loop μ-loop
+loop-less-3 c = omega (arith, c .before .before .before .before .loop-test .taken)
+
+loop-again-3 : tie.Need-loop-again-3 Inv-loop μ-loop
+loop-again-3 c = let a = c .before .before .before .before .before .before .before .before .args in
+    let at = c .before .before .before .before .before .loop in
+    let first : Knowledge = record { cells = a .first; control = a .was } in
+    (omega (arith, c .before .before .before .before .loop-test .taken), rose (a .part) (a .family) (a .bytes .now) first (at .i) (at .cells) (at .control) _ (c .before .before .before .before .loop-test .taken) (shown-as (a .bytes .now) (at .i) (c .before .enum-told3 .given .1) (c .before .before .before .everyday-at .ensures)) (c .rises .ensures (sizesOf (a .family))) (at .inv .1))
+
+enum-known-record-2 : tie.Need-enum-known-record-2 Inv-loop μ-loop
+enum-known-record-2 c = search needs
 
 goes-to-requires : tie.Need-goes-to-requires Inv-loop μ-loop
 goes-to-requires c κs = search needs
@@ -73,19 +203,71 @@ goes-to-requires c κs = search needs
 enum-known-to : tie.Need-enum-known-to Inv-loop μ-loop
 enum-known-to c = search needs
 
-slice-aggregate-put : tie.Need-slice-aggregate-put Inv-loop μ-loop
-slice-aggregate-put c = search needs
+slice-aggregate-put-run : tie.Need-slice-aggregate-put-run Inv-loop μ-loop
+slice-aggregate-put-run c = search needs
 
-put-requires : tie.Need-put-requires Inv-loop μ-loop
-put-requires c κs =
-    let h = hit _ _ (c .before .before .to .given .1) (c .before .before .before .before .goes-to .ensures) in
-    omega (arith, h .inside, room (c .before .before .before .before .before .before .before .before .before .before .before .before .before .before .before .args .family) .0)
+put-run-requires : tie.Need-put-run-requires Inv-loop μ-loop
+put-run-requires c κs = let a = c .before .before .before .before .before .before .before .before .before .before .before .before .before .args in
+    let at = c .before .before .before .before .before .before .before .before .before .before .loop in
+    let h = hit (sizesOf (a .family)) (at .control) (c .before .before .to .given .1) (c .before .before .before .before .goes-to .ensures) in
+    let b = shown-as (a .bytes .now) (at .i) (c .before .before .before .before .before .before .record2 .given .1) (c .before .before .before .before .before .before .before .before .everyday-at .ensures) in
+    let s = c .before .before .before .before .before .before .before .before .before .before .before .sizes .ensures in
+    let room : c .before .before .before .before .before .before .before .before .before .before .before .sizes .result .cells ≤ 36 = rw s (room (a .family) .0) in
+    ((rw s (h .inside), omega (arith, room, at .inv .1 .size)), (b .there, b .kind))
 
 counted-on-requires : tie.Need-counted-on-requires Inv-loop μ-loop
-counted-on-requires c κs = hit _ _ (c .before .before .before .before .to .given .1) (c .before .before .before .before .before .before .goes-to .ensures)
+counted-on-requires c κs = subst (λ (x : Sizes). c .before .before .before .before .to .given .0 .0 .0 + c .before .put-run .result ≤ x .cells) (c .before .before .before .before .before .before .before .before .before .before .before .before .before .sizes .ensures) (c .before .put-run .ensures .room)
 
-enum-told-3 : tie.Need-enum-told-3 Inv-loop μ-loop
-enum-told-3 c = search needs
+mul-i : tie.Need-mul-i Inv-loop μ-loop
+mul-i c = record { fits = omega (arith, (c .before .before .put-run .ensures) .run .fits, c .before .before .before .before .before .before .before .before .before .before .before .before .before .before .before .before .good .1 .1 .1 .1 .0) }
+
+add-i-4 : tie.Need-add-i-4 Inv-loop μ-loop
+add-i-4 c = record { fits = omega (arith, (c .before .before .put-run .ensures) .run .fits, c .before .before .before .before .before .before .before .before .before .before .before .before .before .before .before .before .good .1 .1 .1 .1 .0) }
+
+loop-less-4 : tie.Need-loop-less-4 Inv-loop μ-loop
+loop-less-4 c = omega (arith, (c .before .before .put-run .ensures) .run .fits, (c .before .before .put-run .ensures) .some)
+
+loop-again-4 : tie.Need-loop-again-4 Inv-loop μ-loop
+loop-again-4 c = let a = c .before .before .before .before .before .before .before .before .before .before .before .before .before .before .before .before .args in
+    let at = c .before .before .before .before .before .before .before .before .before .before .before .before .before .loop in
+    let first : Knowledge = record { cells = a .first; control = a .was } in
+    ((c .before .before .put-run .ensures) .run .fits, stores (a .part) (a .family) (a .bytes .now) first (at .i) _ (c .before .before .before .before .before .to .given .0 .0 .0) (at .cells) _ (at .control) _ (hit (sizesOf (a .family)) (at .control) (c .before .before .before .before .before .to .given .1) (c .before .before .before .before .before .before .before .goes-to .ensures)) (subst (λ (x : Sizes). PutsRun 65535 (c .before .before .before .before .before .to .given .0 .0 .0) (x .cells) (a .bytes .now) (at .i) (at .cells) (c .before .before .put-run .result) (c .before .before .put-run .last .0)) (c .before .before .before .before .before .before .before .before .before .before .before .before .before .before .sizes .ensures) (c .before .before .put-run .ensures)) (c .before .cells4 .given) (c .counted-on .ensures) (at .inv .1))
+
+enum-told-4 : tie.Need-enum-told-4 Inv-loop μ-loop
+enum-told-4 c = search needs
+
+slice-aggregate-none-known : tie.Need-slice-aggregate-none-known Inv-loop μ-loop
+slice-aggregate-none-known c = search needs
+
+none-known-requires : tie.Need-none-known-requires Inv-loop μ-loop
+none-known-requires c κs = search needs
+
+passed-requires : tie.Need-passed-requires Inv-loop μ-loop
+passed-requires c κs = let a = c .before .before .before .before .before .before .before .before .before .before .before .before .before .before .args in
+    let at = c .before .before .before .before .before .before .before .before .before .before .before .loop in
+    let b = shown-as (a .bytes .now) (at .i) (c .before .before .before .before .before .before .before .record2 .given .1) (c .before .before .before .before .before .before .before .before .before .everyday-at .ensures) in
+    (b .there, b .kind)
+
+mul-i-2 : tie.Need-mul-i-2 Inv-loop μ-loop
+mul-i-2 c = record { fits = omega (arith, (c .passed .ensures .1) .fits, c .before .before .before .before .before .before .before .before .before .before .before .before .before .before .before .good .1 .1 .1 .1 .0) }
+
+add-i-5 : tie.Need-add-i-5 Inv-loop μ-loop
+add-i-5 c = record { fits = omega (arith, (c .passed .ensures .1) .fits, c .before .before .before .before .before .before .before .before .before .before .before .before .before .before .before .good .1 .1 .1 .1 .0) }
+
+loop-less-5 : tie.Need-loop-less-5 Inv-loop μ-loop
+loop-less-5 c = omega (arith, (c .passed .ensures .1) .fits, c .passed .ensures .0)
+
+loop-again-5 : tie.Need-loop-again-5 Inv-loop μ-loop
+loop-again-5 c = let a = c .before .before .before .before .before .before .before .before .before .before .before .before .before .before .before .args in
+    let at = c .before .before .before .before .before .before .before .before .before .before .before .before .loop in
+    let first : Knowledge = record { cells = a .first; control = a .was } in
+    (c .passed .ensures .1 .fits, meets-none (a .part) (a .family) (a .bytes .now) first (at .i) _ (at .cells) (at .control) (hit (sizesOf (a .family)) (at .control) (c .before .before .before .before .enum-told4 .given .1) (c .before .before .before .before .before .before .goes-to .ensures)) (c .passed .ensures .1) (λ j k. c .before .before .none-known .ensures (c .before .if1 .taken) 8 j k) (at .inv .1))
+
+shared-requires : tie.Need-shared-requires Inv-loop μ-loop
+shared-requires c κs = let a = c .before .before .before .before .before .before .before .before .before .before .before .before .before .before .args in
+    let at = c .before .before .before .before .before .before .before .before .before .before .before .loop in
+    let b = shown-as (a .bytes .now) (at .i) (c .before .before .before .before .before .before .before .record2 .given .1) (c .before .before .before .before .before .before .before .before .before .everyday-at .ensures) in
+    (b .there, b .kind)
 
 slice-aggregate-meets : tie.Need-slice-aggregate-meets Inv-loop μ-loop
 slice-aggregate-meets c = search needs
@@ -93,20 +275,211 @@ slice-aggregate-meets c = search needs
 meets-requires : tie.Need-meets-requires Inv-loop μ-loop
 meets-requires c κs = search needs
 
-enum-told-4 : tie.Need-enum-told-4 Inv-loop μ-loop
-enum-told-4 c = search needs
+mul-i-3 : tie.Need-mul-i-3 Inv-loop μ-loop
+mul-i-3 c = record { fits = omega (arith, (c .before .before .before .before .shared .ensures) .run .fits, c .before .before .before .before .before .before .before .before .before .before .before .before .before .before .before .before .before .before .before .good .1 .1 .1 .1 .0) }
+
+add-i-6 : tie.Need-add-i-6 Inv-loop μ-loop
+add-i-6 c = record { fits = omega (arith, (c .before .before .before .before .shared .ensures) .run .fits, c .before .before .before .before .before .before .before .before .before .before .before .before .before .before .before .before .before .before .before .good .1 .1 .1 .1 .0) }
+
+loop-less-6 : tie.Need-loop-less-6 Inv-loop μ-loop
+loop-less-6 c = omega (arith, (c .before .before .before .before .shared .ensures) .run .fits, (c .before .before .before .before .shared .ensures) .counted)
+
+loop-again-6 : tie.Need-loop-again-6 Inv-loop μ-loop
+loop-again-6 c = let a = c .before .before .before .before .before .before .before .before .before .before .before .before .before .before .before .before .before .before .before .args in
+    let at = c .before .before .before .before .before .before .before .before .before .before .before .before .before .before .before .before .loop in
+    let first : Knowledge = record { cells = a .first; control = a .was } in
+    ((c .before .before .before .before .shared .ensures) .run .fits, meets-all (a .part) (a .family) (a .bytes .now) first (at .i) _ _ (at .cells) _ (at .control) (hit (sizesOf (a .family)) (at .control) (c .before .before .before .before .before .before .before .before .enum-told4 .given .1) (c .before .before .before .before .before .before .before .before .before .before .goes-to .ensures)) (c .before .before .before .before .shared .ensures) (c .before .before .meets .ensures) (at .inv .1))
 
 enum-told-5 : tie.Need-enum-told-5 Inv-loop μ-loop
 enum-told-5 c = search needs
 
-slice-aggregate-command-in : tie.Need-slice-aggregate-command-in Inv-loop μ-loop
-slice-aggregate-command-in c = search needs
+perhaps-lit-requires : tie.Need-perhaps-lit-requires Inv-loop μ-loop
+perhaps-lit-requires c κs = search needs
 
-command-in-requires : tie.Need-command-in-requires Inv-loop μ-loop
-command-in-requires c κs = (hit _ _ (c .before .enum-told5 .given .1) (c .before .before .before .goes-to .ensures), search needs)
+slice-aggregate-none-known-2 : tie.Need-slice-aggregate-none-known-2 Inv-loop μ-loop
+slice-aggregate-none-known-2 c = search needs
+
+none-known-requires-2 : tie.Need-none-known-requires-2 Inv-loop μ-loop
+none-known-requires-2 c κs = search needs
+
+slice-aggregate-meets-2 : tie.Need-slice-aggregate-meets-2 Inv-loop μ-loop
+slice-aggregate-meets-2 c = search needs
+
+code-of-requires : tie.Need-code-of-requires Inv-loop μ-loop
+code-of-requires c κs = search needs
+
+meets-requires-2 : tie.Need-meets-requires-2 Inv-loop μ-loop
+meets-requires-2 c κs = search needs
+
+add-i-7 : tie.Need-add-i-7 Inv-loop μ-loop
+add-i-7 c = let a = c .before .before .before .before .before .before .before .before .before .before .before .before .before .before .before .args in
+    let at = c .before .before .before .before .before .before .before .before .before .before .before .before .loop in
+    let there = shown-as (a .bytes .now) (at .i) (c .before .before .before .before .before .before .before .before .record2 .given .1) (c .before .before .before .before .before .before .before .before .before .before .everyday-at .ensures) .there in
+    record { fits = omega (arith, there, c .before .before .before .before .before .before .before .before .before .before .before .before .before .before .before .good .1 .1 .1 .1 .0) }
+
+loop-less-7 : tie.Need-loop-less-7 Inv-loop μ-loop
+loop-less-7 c = let a = c .before .before .before .before .before .before .before .before .before .before .before .before .before .before .before .args in
+    let at = c .before .before .before .before .before .before .before .before .before .before .before .before .loop in
+    let there = shown-as (a .bytes .now) (at .i) (c .before .before .before .before .before .before .before .before .record2 .given .1) (c .before .before .before .before .before .before .before .before .before .before .everyday-at .ensures) .there in
+    omega (arith, there)
+
+loop-again-7 : tie.Need-loop-again-7 Inv-loop μ-loop
+loop-again-7 c = let a = c .before .before .before .before .before .before .before .before .before .before .before .before .before .before .before .args in
+    let at = c .before .before .before .before .before .before .before .before .before .before .before .before .loop in
+    let first : Knowledge = record { cells = a .first; control = a .was } in
+    let b = shown-as (a .bytes .now) (at .i) (c .before .before .before .before .before .before .before .before .record2 .given .1) (c .before .before .before .before .before .before .before .before .before .before .everyday-at .ensures) in
+    let byte = c .before .before .before .before .before .before .before .before .record2 .given .0 .0 in
+    let lit = c .before .before .before .perhaps-lit in
+    let steps = drifts (a .family) (at .control) (lit .result) byte (hit (sizesOf (a .family)) (at .control) (c .before .before .before .before .enum-told5 .given .1) (c .before .before .before .before .before .before .goes-to .ensures)) (lit .ensures) in (
+      omega (arith, b .there),
+      ⊎-elim
+          (λ x. here-as (a .part) (a .family) (a .bytes .now) first refl (x .5) refl (took (a .part) (a .family) (a .bytes .now) first (at .i) byte (at .cells) (x .3 .last .1 .0) (at .control) _ b (x .4 .given) steps (met-byte 8 65535 byte _ (at .cells) _ 0 1 (sizesOf (a .family) .cells) wide8 (x .2 .ensures 8 wide8) (x .3 .ensures)) (at .inv .1)))
+          (λ x. here-as (a .part) (a .family) (a .bytes .now) first refl (x .1) refl (took (a .part) (a .family) (a .bytes .now) first (at .i) byte (at .cells) (at .cells) (at .control) _ b (at .inv .1 .size) steps (unmet (at .cells) (record { 0 = 0 }) 1 (sizesOf (a .family) .cells) byte (λ j k. c .before .none-known2 .ensures (holds-then _ (x .0 .left)) 8 j k)) (at .inv .1))) (c .if2 .came),
+    )
 
 enum-told-6 : tie.Need-enum-told-6 Inv-loop μ-loop
 enum-told-6 c = search needs
+
+passed-requires-2 : tie.Need-passed-requires-2 Inv-loop μ-loop
+passed-requires-2 c κs = let a = c .before .before .before .before .before .before .before .before .before .before .before .args in
+    let at = c .before .before .before .before .before .before .before .before .loop in
+    let b = shown-as (a .bytes .now) (at .i) (c .before .before .before .before .record2 .given .1) (c .before .before .before .before .before .before .everyday-at .ensures) in
+    (b .there, b .kind)
+
+mul-i-4 : tie.Need-mul-i-4 Inv-loop μ-loop
+mul-i-4 c = record { fits = omega (arith, (c .passed2 .ensures .1) .fits, c .before .before .before .before .before .before .before .before .before .before .before .before .good .1 .1 .1 .1 .0) }
+
+add-i-8 : tie.Need-add-i-8 Inv-loop μ-loop
+add-i-8 c = record { fits = omega (arith, (c .passed2 .ensures .1) .fits, c .before .before .before .before .before .before .before .before .before .before .before .before .good .1 .1 .1 .1 .0) }
+
+loop-less-8 : tie.Need-loop-less-8 Inv-loop μ-loop
+loop-less-8 c = omega (arith, (c .passed2 .ensures .1) .fits, c .passed2 .ensures .0)
+
+loop-again-8 : tie.Need-loop-again-8 Inv-loop μ-loop
+loop-again-8 c = let a = c .before .before .before .before .before .before .before .before .before .before .before .before .args in
+    let at = c .before .before .before .before .before .before .before .before .before .loop in
+    let first : Knowledge = record { cells = a .first; control = a .was } in
+    (c .passed2 .ensures .1 .fits, passes (a .part) (a .family) (a .bytes .now) first (at .i) _ (at .cells) (at .control) (c .passed2 .ensures .1) (λ b. (hit (sizesOf (a .family)) (at .control) (c .before .enum-told6 .given .1) (c .before .before .before .goes-to .ensures)) b .knows (held (at .cells))) (at .inv .1))
+
+enum-told-7 : tie.Need-enum-told-7 Inv-loop μ-loop
+enum-told-7 c = search needs
+
+lit-requires : tie.Need-lit-requires Inv-loop μ-loop
+lit-requires c κs = search needs
+
+add-i-9 : tie.Need-add-i-9 Inv-loop μ-loop
+add-i-9 c = let a = c .before .before .before .before .before .before .before .before .before .before .before .before .args in
+    let at = c .before .before .before .before .before .before .before .before .before .loop in
+    let there = shown-as (a .bytes .now) (at .i) (c .before .before .before .before .before .record2 .given .1) (c .before .before .before .before .before .before .before .everyday-at .ensures) .there in
+    record { fits = omega (arith, there, c .before .before .before .before .before .before .before .before .before .before .before .before .good .1 .1 .1 .1 .0) }
+
+loop-less-9 : tie.Need-loop-less-9 Inv-loop μ-loop
+loop-less-9 c = let a = c .before .before .before .before .before .before .before .before .before .before .before .before .args in
+    let at = c .before .before .before .before .before .before .before .before .before .loop in
+    let there = shown-as (a .bytes .now) (at .i) (c .before .before .before .before .before .record2 .given .1) (c .before .before .before .before .before .before .before .everyday-at .ensures) .there in
+    omega (arith, there)
+
+loop-again-9 : tie.Need-loop-again-9 Inv-loop μ-loop
+loop-again-9 c = let a = c .before .before .before .before .before .before .before .before .before .before .before .before .args in
+    let at = c .before .before .before .before .before .before .before .before .before .loop in
+    let first : Knowledge = record { cells = a .first; control = a .was } in
+    let b = shown-as (a .bytes .now) (at .i) (c .before .before .before .before .before .record2 .given .1) (c .before .before .before .before .before .before .before .everyday-at .ensures) in
+    (omega (arith, b .there), took (a .part) (a .family) (a .bytes .now) first (at .i) _ (at .cells) (at .cells) (at .control) (keptOf (c .lit .result)) b (at .inv .1 .size) (lights-in (a .family) (at .control) _ _ (hit (sizesOf (a .family)) (at .control) (c .before .enum-told7 .given .1) (c .before .before .before .goes-to .ensures)) (c .lit .ensures (sizesOf (a .family)))) (λ j k. refl) (at .inv .1))
+
+enum-known-to-2 : tie.Need-enum-known-to-2 Inv-loop μ-loop
+enum-known-to-2 c = search needs
+
+perhaps-lit-requires-2 : tie.Need-perhaps-lit-requires-2 Inv-loop μ-loop
+perhaps-lit-requires-2 c κs = search needs
+
+perhaps-stepped-requires : tie.Need-perhaps-stepped-requires Inv-loop μ-loop
+perhaps-stepped-requires c κs = search needs
+
+slice-aggregate-meet-one : tie.Need-slice-aggregate-meet-one Inv-loop μ-loop
+slice-aggregate-meet-one c = sym (c .before .before .before .before .before .before .before .before .before .before .before .before .loop .inv .1 .size)
+
+meet-one-requires : tie.Need-meet-one-requires Inv-loop μ-loop
+meet-one-requires c κs = let a = c .before .before .before .before .before .before .before .before .before .before .before .before .before .before .before .args in
+    let at = c .before .before .before .before .before .before .before .before .before .before .before .before .loop in
+    let h = hit (sizesOf (a .family)) (at .control) (c .before .before .before .before .to2 .given .1) (c .before .before .before .before .before .before .goes-to .ensures) in
+    omega (arith, h .1, room (a .family) .0, at .inv .1 .size)
+
+add-i-10 : tie.Need-add-i-10 Inv-loop μ-loop
+add-i-10 c = let a = c .before .before .before .before .before .before .before .before .before .before .before .before .before .before .before .before .before .args in
+    let at = c .before .before .before .before .before .before .before .before .before .before .before .before .before .before .loop in
+    let there = shown-as (a .bytes .now) (at .i) (c .before .before .before .before .before .before .before .before .before .before .record2 .given .1) (c .before .before .before .before .before .before .before .before .before .before .before .before .everyday-at .ensures) .there in
+    record { fits = omega (arith, there, c .before .before .before .before .before .before .before .before .before .before .before .before .before .before .before .before .before .good .1 .1 .1 .1 .0) }
+
+loop-less-10 : tie.Need-loop-less-10 Inv-loop μ-loop
+loop-less-10 c = let a = c .before .before .before .before .before .before .before .before .before .before .before .before .before .before .before .before .before .args in
+    let at = c .before .before .before .before .before .before .before .before .before .before .before .before .before .before .loop in
+    let there = shown-as (a .bytes .now) (at .i) (c .before .before .before .before .before .before .before .before .before .before .record2 .given .1) (c .before .before .before .before .before .before .before .before .before .before .before .before .everyday-at .ensures) .there in
+    omega (arith, there)
+
+loop-again-10 : tie.Need-loop-again-10 Inv-loop μ-loop
+loop-again-10 c = let a = c .before .before .before .before .before .before .before .before .before .before .before .before .before .before .before .before .before .args in
+    let at = c .before .before .before .before .before .before .before .before .before .before .before .before .before .before .loop in
+    let first : Knowledge = record { cells = a .first; control = a .was } in
+    let b = shown-as (a .bytes .now) (at .i) (c .before .before .before .before .before .before .before .before .before .before .record2 .given .1) (c .before .before .before .before .before .before .before .before .before .before .before .before .everyday-at .ensures) in
+    (omega (arith, b .there), took (a .part) (a .family) (a .bytes .now) first (at .i) _ (at .cells) _ (at .control) (record { control = c .before .before .before .perhaps-stepped .result; change = Meet (c .before .before .before .before .before .before .to2 .given .0 .0) 1 1 (c .before .before .before .before .before .before .before .before .before .before .record2 .given .0 .0) }) b (c .cells12 .given) (drifts-at (a .family) (at .control) _ _ _ _ ((hit (sizesOf (a .family)) (at .control) (c .before .before .before .before .before .before .to2 .given .1) (c .before .before .before .before .before .before .before .before .goes-to .ensures)) .0) ((hit (sizesOf (a .family)) (at .control) (c .before .before .before .before .before .before .to2 .given .1) (c .before .before .before .before .before .before .before .before .goes-to .ensures)) .1) (c .before .before .before .before .perhaps-lit2 .ensures) (c .before .before .before .perhaps-stepped .ensures)) (c .before .meet-one .ensures 8 wide8) (at .inv .1))
+
+enum-told-8 : tie.Need-enum-told-8 Inv-loop μ-loop
+enum-told-8 c = search needs
+
+perhaps-lit-requires-3 : tie.Need-perhaps-lit-requires-3 Inv-loop μ-loop
+perhaps-lit-requires-3 c κs = search needs
+
+add-i-11 : tie.Need-add-i-11 Inv-loop μ-loop
+add-i-11 c = let a = c .before .before .before .before .before .before .before .before .before .before .before .before .args in
+    let at = c .before .before .before .before .before .before .before .before .before .loop in
+    let there = shown-as (a .bytes .now) (at .i) (c .before .before .before .before .before .record2 .given .1) (c .before .before .before .before .before .before .before .everyday-at .ensures) .there in
+    record { fits = omega (arith, there, c .before .before .before .before .before .before .before .before .before .before .before .before .good .1 .1 .1 .1 .0) }
+
+loop-less-11 : tie.Need-loop-less-11 Inv-loop μ-loop
+loop-less-11 c = let a = c .before .before .before .before .before .before .before .before .before .before .before .before .args in
+    let at = c .before .before .before .before .before .before .before .before .before .loop in
+    let there = shown-as (a .bytes .now) (at .i) (c .before .before .before .before .before .record2 .given .1) (c .before .before .before .before .before .before .before .everyday-at .ensures) .there in
+    omega (arith, there)
+
+loop-again-11 : tie.Need-loop-again-11 Inv-loop μ-loop
+loop-again-11 c = let a = c .before .before .before .before .before .before .before .before .before .before .before .before .args in
+    let at = c .before .before .before .before .before .before .before .before .before .loop in
+    let first : Knowledge = record { cells = a .first; control = a .was } in
+    let b = shown-as (a .bytes .now) (at .i) (c .before .before .before .before .before .record2 .given .1) (c .before .before .before .before .before .before .before .everyday-at .ensures) in
+    (omega (arith, b .there), took (a .part) (a .family) (a .bytes .now) first (at .i) _ (at .cells) (at .cells) (at .control) (keptOf (c .perhaps-lit3 .result)) b (at .inv .1 .size) (drifts-lit (a .family) (at .control) _ _ (hit (sizesOf (a .family)) (at .control) (c .before .enum-told8 .given .1) (c .before .before .before .goes-to .ensures)) (c .perhaps-lit3 .ensures)) (λ j k. refl) (at .inv .1))
+
+enum-told-9 : tie.Need-enum-told-9 Inv-loop μ-loop
+enum-told-9 c = search needs
+
+nothing-left-requires : tie.Need-nothing-left-requires Inv-loop μ-loop
+nothing-left-requires c κs = search needs
+
+slice-aggregate-none-known-3 : tie.Need-slice-aggregate-none-known-3 Inv-loop μ-loop
+slice-aggregate-none-known-3 c = search needs
+
+none-known-requires-3 : tie.Need-none-known-requires-3 Inv-loop μ-loop
+none-known-requires-3 c κs = search needs
+
+passed-requires-3 : tie.Need-passed-requires-3 Inv-loop μ-loop
+passed-requires-3 c κs = let a = c .before .before .before .before .before .before .before .before .before .before .before .before .before .before .before .before .args in
+    let at = c .before .before .before .before .before .before .before .before .before .before .before .before .before .loop in
+    let b = shown-as (a .bytes .now) (at .i) (c .before .before .before .before .before .before .before .before .before .record2 .given .1) (c .before .before .before .before .before .before .before .before .before .before .before .everyday-at .ensures) in
+    (b .there, b .kind)
+
+mul-i-5 : tie.Need-mul-i-5 Inv-loop μ-loop
+mul-i-5 c = record { fits = omega (arith, (c .passed3 .ensures .1) .fits, c .before .before .before .before .before .before .before .before .before .before .before .before .before .before .before .before .before .good .1 .1 .1 .1 .0) }
+
+add-i-12 : tie.Need-add-i-12 Inv-loop μ-loop
+add-i-12 c = record { fits = omega (arith, (c .passed3 .ensures .1) .fits, c .before .before .before .before .before .before .before .before .before .before .before .before .before .before .before .before .before .good .1 .1 .1 .1 .0) }
+
+loop-less-12 : tie.Need-loop-less-12 Inv-loop μ-loop
+loop-less-12 c = omega (arith, (c .passed3 .ensures .1) .fits, c .passed3 .ensures .0)
+
+loop-again-12 : tie.Need-loop-again-12 Inv-loop μ-loop
+loop-again-12 c = let a = c .before .before .before .before .before .before .before .before .before .before .before .before .before .before .before .before .before .args in
+    let at = c .before .before .before .before .before .before .before .before .before .before .before .before .before .before .loop in
+    let first : Knowledge = record { cells = a .first; control = a .was } in
+    (c .passed3 .ensures .1 .fits, passes (a .part) (a .family) (a .bytes .now) first (at .i) _ (at .cells) (at .control) (c .passed3 .ensures .1) (lost-deaf (a .family) (at .control) (held (at .cells)) (c .before .before .before .before .before .nothing-left .ensures (c .before .before .before .before .if3 .taken)) (λ j k. c .before .before .none-known3 .ensures (c .before .if4 .taken) 8 j k)) (at .inv .1))
 
 slice-aggregate-taken : tie.Need-slice-aggregate-taken Inv-loop μ-loop
 slice-aggregate-taken c = search needs
@@ -114,83 +487,114 @@ slice-aggregate-taken c = search needs
 taken-requires : tie.Need-taken-requires Inv-loop μ-loop
 taken-requires c κs = search needs
 
+add-i-13 : tie.Need-add-i-13 Inv-loop μ-loop
+add-i-13 c = let a = c .before .before .before .before .before .before .before .before .before .before .before .before .before .before .before .before .args in
+    let at = c .before .before .before .before .before .before .before .before .before .before .before .before .before .loop in
+    let there = shown-as (a .bytes .now) (at .i) (c .before .before .before .before .before .before .before .before .before .record2 .given .1) (c .before .before .before .before .before .before .before .before .before .before .before .everyday-at .ensures) .there in
+    record { fits = omega (arith, there, c .before .before .before .before .before .before .before .before .before .before .before .before .before .before .before .before .good .1 .1 .1 .1 .0) }
+
+loop-less-13 : tie.Need-loop-less-13 Inv-loop μ-loop
+loop-less-13 c = let a = c .before .before .before .before .before .before .before .before .before .before .before .before .before .before .before .before .args in
+    let at = c .before .before .before .before .before .before .before .before .before .before .before .before .before .loop in
+    let there = shown-as (a .bytes .now) (at .i) (c .before .before .before .before .before .before .before .before .before .record2 .given .1) (c .before .before .before .before .before .before .before .before .before .before .before .everyday-at .ensures) .there in
+    omega (arith, there)
+
+loop-again-13 : tie.Need-loop-again-13 Inv-loop μ-loop
+loop-again-13 c = let a = c .before .before .before .before .before .before .before .before .before .before .before .before .before .before .before .before .args in
+    let at = c .before .before .before .before .before .before .before .before .before .before .before .before .before .loop in
+    let first : Knowledge = record { cells = a .first; control = a .was } in
+    let b = shown-as (a .bytes .now) (at .i) (c .before .before .before .before .before .before .before .before .before .record2 .given .1) (c .before .before .before .before .before .before .before .before .before .before .before .everyday-at .ensures) in
+    (omega (arith, b .there), takes (a .part) (a .family) (a .bytes .now) first (at .i) 2 (ByteIn (c .before .before .before .before .before .before .before .before .before .record2 .given .0 .0)) (at .cells) _ (at .control) _ (omega (arith, b .there)) (byte-is (a .part) (a .bytes .now) (at .i) _ b) (c .cells15 .given) (c .before .taken .ensures) (at .inv .1))
+
+enum-told-10 : tie.Need-enum-told-10 Inv-loop μ-loop
+enum-told-10 c = search needs
+
+no-control-requires : tie.Need-no-control-requires Inv-loop μ-loop
+no-control-requires c κs = search needs
+
+slice-aggregate-forget-2 : tie.Need-slice-aggregate-forget-2 Inv-loop μ-loop
+slice-aggregate-forget-2 c = search needs
+
+forget-requires-2 : tie.Need-forget-requires-2 Inv-loop μ-loop
+forget-requires-2 c κs = search needs
+
+add-i-14 : tie.Need-add-i-14 Inv-loop μ-loop
+add-i-14 c = record { fits = omega (arith, c .before .before .before .before .before .before .before .loop-test .taken, c .before .before .before .before .before .before .before .before .before .before .before .good .1 .1 .1 .1 .0) }
+
+loop-less-14 : tie.Need-loop-less-14 Inv-loop μ-loop
+loop-less-14 c = omega (arith, c .before .before .before .before .before .before .before .loop-test .taken)
+
+loop-again-14 : tie.Need-loop-again-14 Inv-loop μ-loop
+loop-again-14 c = let a = c .before .before .before .before .before .before .before .before .before .before .before .args in
+    let at = c .before .before .before .before .before .before .before .before .loop in
+    let first : Knowledge = record { cells = a .first; control = a .was } in
+    (omega (arith, c .before .before .before .before .before .before .before .loop-test .taken), lost (a .part) (a .family) (a .bytes .now) first (at .i) (at .cells) _ (at .control) _ (c .before .before .before .before .before .before .before .loop-test .taken) (shown-as (a .bytes .now) (at .i) (c .before .before .before .before .enum-told10 .given .1) (c .before .before .before .before .before .before .everyday-at .ensures)) (c .cells17 .given) (λ j k. c .before .forget2 .ensures 8 j k) (c .before .before .before .no-control .ensures) (at .inv .1))
+
+enum-told-11 : tie.Need-enum-told-11 Inv-loop μ-loop
+enum-told-11 c = search needs
+
+record-at-requires : tie.Need-record-at-requires Inv-loop μ-loop
+record-at-requires c κs = search needs
+
+enum-known-read : tie.Need-enum-known-read Inv-loop μ-loop
+enum-known-read c = search needs
+
 slice-aggregate-taken-2 : tie.Need-slice-aggregate-taken-2 Inv-loop μ-loop
 slice-aggregate-taken-2 c = search needs
 
 taken-requires-2 : tie.Need-taken-requires-2 Inv-loop μ-loop
 taken-requires-2 c κs = search needs
 
-add-i : tie.Need-add-i Inv-loop μ-loop
-add-i c = let a = c .before .before .before .before .before .before .before .before .args in
-    let at = c .before .before .before .before .before .before .loop in
-    let read = c .before .before .read .given in
-    let e = sym (c .before .before .before .before .record-at .ensures) ∙ read .1 in
-    let f = record-fits (a .part) (drop (at .i) (a .bytes .now)) (read .0 .0) (read .0 .1 .0) e in
+add-i-15 : tie.Need-add-i-15 Inv-loop μ-loop
+add-i-15 c = let a = c .before .before .before .before .before .before .before .before .before .before .before .before .before .before .args in
+    let at = c .before .before .before .before .before .before .before .before .before .before .before .loop in
+    let read = c .before .before .before .before .read .given in
+    let e = sym (c .before .before .before .before .before .before .record-at .ensures) ∙ read .1 in
+    let fits = record-fits (a .part) (drop (at .i) (a .bytes .now)) (read .0 .0) (read .0 .1 .0) e in
     let d = length-drop (at .i) (a .bytes .now) in
-    record { fits = omega (arith, f, d, c .before .before .before .before .before .loop-test .taken, c .before .before .before .before .before .before .before .before .good .1 .1 .1 .1 .0) }
+    record { fits = omega (arith, fits, d, c .before .before .before .before .before .before .before .before .before .before .loop-test .taken, c .before .before .before .before .before .before .before .before .before .before .before .before .before .before .good .1 .1 .1 .1 .0) }
 
-loop-less : tie.Need-loop-less Inv-loop μ-loop
-loop-less c = let a = c .before .before .before .before .before .before .before .before .args in
-    let at = c .before .before .before .before .before .before .loop in
-    let read = c .before .before .read .given in
-    let e = sym (c .before .before .before .before .record-at .ensures) ∙ read .1 in
-    let f = record-fits (a .part) (drop (at .i) (a .bytes .now)) (read .0 .0) (read .0 .1 .0) e in
+loop-less-15 : tie.Need-loop-less-15 Inv-loop μ-loop
+loop-less-15 c = let a = c .before .before .before .before .before .before .before .before .before .before .before .before .before .before .args in
+    let at = c .before .before .before .before .before .before .before .before .before .before .before .loop in
+    let read = c .before .before .before .before .read .given in
+    let e = sym (c .before .before .before .before .before .before .record-at .ensures) ∙ read .1 in
+    let fits = record-fits (a .part) (drop (at .i) (a .bytes .now)) (read .0 .0) (read .0 .1 .0) e in
     let d = length-drop (at .i) (a .bytes .now) in
-    omega (arith, f, d, c .before .before .before .before .before .loop-test .taken)
+    omega (arith, fits, d, c .before .before .before .before .before .before .before .before .before .before .loop-test .taken)
 
-loop-again : tie.Need-loop-again Inv-loop μ-loop
-loop-again c = let a = c .before .before .before .before .before .before .before .before .args in
+loop-again-15 : tie.Need-loop-again-15 Inv-loop μ-loop
+loop-again-15 c = let a = c .before .before .before .before .before .before .before .before .before .before .before .before .before .before .args in
+    let at = c .before .before .before .before .before .before .before .before .before .before .before .loop in
     let first : Knowledge = record { cells = a .first; control = a .was } in
-    let at = c .before .before .before .before .before .before .loop in
-    let read = c .before .before .read .given in
-    let e = sym (c .before .before .before .before .record-at .ensures) ∙ read .1 in
-    let f = record-fits (a .part) (drop (at .i) (a .bytes .now)) (read .0 .0) (read .0 .1 .0) e in
+    let read = c .before .before .before .before .read .given in
+    let e = sym (c .before .before .before .before .before .before .record-at .ensures) ∙ read .1 in
+    let fits = record-fits (a .part) (drop (at .i) (a .bytes .now)) (read .0 .0) (read .0 .1 .0) e in
     let d = length-drop (at .i) (a .bytes .now) in
-    let w = walked (a .part) (a .bytes .now) in
-    let behind = rest (a .part) (a .bytes .now) (at .i + read .0 .1 .0) in
-    let h = rest-next (a .part) (a .bytes .now) (at .i) (read .0 .0) (read .0 .1 .0) (c .before .before .before .before .before .loop-test .taken) e in
-    let k : Knowledge = record { cells = at .cells; control = at .control } in
-    let arm : Arrives (a .family) k (read .0 .0) (c .match2 .cells) (c .match2 .control) = ⊎-elim
-    (λ x. arrived (a .family) k (x .1 .given .1) (x .3) (x .4) (search needs) (x .2 .ensures (sizes (a .family)) (held (at .cells))))
-    (⊎-elim
-    (λ x. arrived (a .family) k (x .1 .given .1) (x .3) (x .4) (search needs) (x .2 .ensures (sizes (a .family)) (held (at .cells))))
-    (⊎-elim
-    (λ x. arrived (a .family) k (x .1 .given .1) (x .11) (x .12) (x .9 .given) (step-done (a .family) k (ByteIn (x .1 .given .0 .0)) _ (x .8 .last .0) (x .10 .ensures (x .1 .given .0 .0)) (x .8 .ensures 8 wide8)))
-    (⊎-elim
-    (λ x. arrived (a .family) k (x .1 .given .1) (x .9) (x .10) (x .8 .given) (step-done (a .family) k (ByteIn (x .1 .given .0 .0)) _ (x .7 .last .1 .0) (roamed (a .family) (at .control) (x .1 .given .0 .0) (hit _ _ (x .5 .given .1) (x .3 .ensures))) (x .7 .ensures)))
-    (⊎-elim
-    (λ x. arrived (a .family) k (x .1 .given .1) (x .6) (x .7) (search needs) (step-done (a .family) k (ByteIn (x .1 .given .0 .0)) (keptOf (at .control)) (at .cells) (ignored (a .family) (at .control) (x .1 .given .0 .0) (hit _ _ (x .5 .given .1) (x .3 .ensures))) (λ i j. refl)))
-    (⊎-elim
-    (λ x. arrived (a .family) k (x .1 .given .1) (x .9) (x .10) (x .8 .given) (x .7 .ensures))
-    (⊎-elim
-    (λ x. arrived (a .family) k (x .1 .given .1) (x .9) (x .10) (x .8 .given) (x .7 .ensures))
-    (λ x. arrived (a .family) k refl (x .4) (x .5) (x .3 .given) (x .2 .ensures)))))))) (c .match2 .came) in
-    ((omega (arith, f, d, c .before .before .before .before .before .loop-test .taken), kept-next kview same? (range (sizes (a .family))) (move (sizes (a .family))) w first (at .i) (read .0 .0) behind k _ (kept-as kview same? (range (sizes (a .family))) (move (sizes (a .family))) w first (rest (a .part) (a .bytes .now) (at .i)) (next (at .i) (read .0 .0) behind) k h (at .inv .0 .1)) (arm .knows)), arm .size)
+    (omega (arith, fits, d, c .before .before .before .before .before .before .before .before .before .before .loop-test .taken), takes (a .part) (a .family) (a .bytes .now) first (at .i) (read .0 .1 .0) (read .0 .0) (at .cells) _ (at .control) _ (c .before .before .before .before .before .before .before .before .before .before .loop-test .taken) e (c .cells19 .given) (c .before .taken2 .ensures) (at .inv .1))
 
 enum-known-read-2 : tie.Need-enum-known-read-2 Inv-loop μ-loop
 enum-known-read-2 c = search needs
 
 place-of-requires : tie.Need-place-of-requires Inv-loop μ-loop
-place-of-requires c κs = let a = c .before .before .before .before .before .before .before .args in
-    stop-fits (a .part) (a .bytes .now) (c .before .before .before .before .before .loop .i) _ (c .before .before .before .before .loop-test .taken) (sym (c .before .before .before .record-at .ensures) ∙ c .before .read2 .given .1)
+place-of-requires c κs = let a = c .before .before .before .before .before .before .before .before .before .before .before .args in
+    let at = c .before .before .before .before .before .before .before .before .loop in
+    stop-fits (a .part) (a .bytes .now) (at .i) _ (c .before .before .before .before .before .before .before .loop-test .taken) (sym (c .before .before .before .record-at .ensures) ∙ c .before .read2 .given .1)
 
 returns : tie.Need-returns Inv-loop μ-loop
-returns c = let k = c .before in
-    let a = k .before .before .before .before .before .before .before .args in
+returns c = let a = c .before .before .before .before .before .before .before .before .before .before .before .before .args in
+    let at = c .before .before .before .before .before .before .before .before .before .loop in
     let first : Knowledge = record { cells = a .first; control = a .was } in
-    let at = k .before .before .before .before .before .loop in
-    let w = walked (a .part) (a .bytes .now) in
-    let h = rest-stops (a .part) (a .bytes .now) (at .i) _ (k .before .before .before .before .loop-test .taken) (sym (k .before .before .before .record-at .ensures) ∙ k .before .read2 .given .1) in
-    let d = kept-stops kview same? (range (sizes (a .family))) (move (sizes (a .family))) w first _ _ _ (kept-as kview same? (range (sizes (a .family))) (move (sizes (a .family))) w first (rest (a .part) (a .bytes .now) (at .i)) _ _ h (at .inv .0 .1)) in
-    record { ended = ap (λ (x : Place). Stops (k .before .read2 .given .0 .0) x) (c .place-of .ensures) ∙ d .0; known = d .1 }
+    let h = rest-stops (a .part) (a .bytes .now) (at .i) _ (c .before .before .before .before .before .before .before .before .loop-test .taken) (sym (c .before .before .before .before .record-at .ensures) ∙ c .before .before .read2 .given .1) in
+    let d = kept-stops same? (range (sizesOf (a .family))) (move (sizesOf (a .family))) (walked (a .part) (a .bytes .now)) (kview first) _ _ _ (kept-as same? (range (sizesOf (a .family))) (move (sizesOf (a .family))) (walked (a .part) (a .bytes .now)) (kview first) (rest (a .part) (a .bytes .now) (at .i)) _ _ h (at .inv .1 .kept)) in
+    record { ended = ap (λ (x : Place). Stops (c .before .before .read2 .given .0 .0) x) (c .place-of .ensures) ∙ d .0; known = d .1 }
 
 returns-2 : tie.Need-returns-2 Inv-loop μ-loop
-returns-2 c = let a = c .before .before .before .args in
-    let first : Knowledge = record { cells = a .first; control = a .was } in
+returns-2 c = let a = c .before .before .before .before .args in
     let at = c .before .loop in
-    let w = walked (a .part) (a .bytes .now) in
+    let first : Knowledge = record { cells = a .first; control = a .was } in
     let h = rest-end (a .part) (a .bytes .now) (at .i) (c .loop-test .left) in
-    let d = kept-done kview same? (range (sizes (a .family))) (move (sizes (a .family))) w first _ (kept-as kview same? (range (sizes (a .family))) (move (sizes (a .family))) w first (rest (a .part) (a .bytes .now) (at .i)) done _ h (at .inv .0 .1)) in
+    let d = kept-done same? (range (sizesOf (a .family))) (move (sizesOf (a .family))) (walked (a .part) (a .bytes .now)) (kview first) _ (kept-as same? (range (sizesOf (a .family))) (move (sizesOf (a .family))) (walked (a .part) (a .bytes .now)) (kview first) (rest (a .part) (a .bytes .now) (at .i)) done _ h (at .inv .1 .kept)) in
     record { ended = d .0; known = d .1 }
 
 pub walk-spec : {M : Type 1} → statement M
@@ -199,34 +603,127 @@ walk-spec =
     (tie.spec
     Inv-loop
     μ-loop
+    sizes-requires
     loop-holds
-    record-at-requires
-    enum-known-read
+    everyday-at-requires
     enum-told
     falls-requires
-    enum-told-2
-    rises-requires
-    enum-known-event
-    goes-to-requires
-    enum-known-to
-    slice-aggregate-put
-    put-requires
-    counted-on-requires
-    enum-told-3
-    slice-aggregate-meets
-    meets-requires
-    enum-told-4
-    enum-told-5
-    slice-aggregate-command-in
-    command-in-requires
-    enum-told-6
-    slice-aggregate-taken
-    taken-requires
-    slice-aggregate-taken-2
-    taken-requires-2
     add-i
     loop-less
     loop-again
+    enum-known-record
+    falls-requires-2
+    command-of-requires
+    enum-known-command
+    to-mode-requires
+    enum-told-2
+    in-test-requires
+    slice-aggregate-forget
+    forget-requires
+    enum-known-command-2
+    data-set-requires
+    enum-known-command-3
+    stepping-set-requires
+    enum-known-command-4
+    display-set-requires
+    enum-known-command-5
+    address-set-requires
+    add-i-2
+    loop-less-2
+    loop-again-2
+    enum-told-3
+    rises-requires
+    add-i-3
+    loop-less-3
+    loop-again-3
+    enum-known-record-2
+    goes-to-requires
+    enum-known-to
+    slice-aggregate-put-run
+    put-run-requires
+    counted-on-requires
+    mul-i
+    add-i-4
+    loop-less-4
+    loop-again-4
+    enum-told-4
+    slice-aggregate-none-known
+    none-known-requires
+    passed-requires
+    mul-i-2
+    add-i-5
+    loop-less-5
+    loop-again-5
+    shared-requires
+    slice-aggregate-meets
+    meets-requires
+    mul-i-3
+    add-i-6
+    loop-less-6
+    loop-again-6
+    enum-told-5
+    perhaps-lit-requires
+    slice-aggregate-none-known-2
+    none-known-requires-2
+    slice-aggregate-meets-2
+    code-of-requires
+    meets-requires-2
+    add-i-7
+    loop-less-7
+    loop-again-7
+    enum-told-6
+    passed-requires-2
+    mul-i-4
+    add-i-8
+    loop-less-8
+    loop-again-8
+    enum-told-7
+    lit-requires
+    add-i-9
+    loop-less-9
+    loop-again-9
+    enum-known-to-2
+    perhaps-lit-requires-2
+    perhaps-stepped-requires
+    slice-aggregate-meet-one
+    meet-one-requires
+    add-i-10
+    loop-less-10
+    loop-again-10
+    enum-told-8
+    perhaps-lit-requires-3
+    add-i-11
+    loop-less-11
+    loop-again-11
+    enum-told-9
+    nothing-left-requires
+    slice-aggregate-none-known-3
+    none-known-requires-3
+    passed-requires-3
+    mul-i-5
+    add-i-12
+    loop-less-12
+    loop-again-12
+    slice-aggregate-taken
+    taken-requires
+    add-i-13
+    loop-less-13
+    loop-again-13
+    enum-told-10
+    no-control-requires
+    slice-aggregate-forget-2
+    forget-requires-2
+    add-i-14
+    loop-less-14
+    loop-again-14
+    enum-told-11
+    record-at-requires
+    enum-known-read
+    slice-aggregate-taken-2
+    taken-requires-2
+    add-i-15
+    loop-less-15
+    loop-again-15
     enum-known-read-2
     place-of-requires
     returns

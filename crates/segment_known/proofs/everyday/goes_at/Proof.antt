@@ -1,5 +1,4 @@
--- `segment_known::everyday::goes_at` meets its contract: a known cell of the part is hit where the stepping counts, and an unknown address anywhere.
--- Assumes nothing.
+-- `segment_known::everyday::goes_at` meets its contract: a known cell of the part is hit where the stepping counts, and an unknown address anywhere. Assumes nothing.
 use mathlib.Core.Path.{ap}
 use Rattle.segment_knowledge.specs.View.{points}
 use borrow.Author.Needs.{needs}

@@ -1,8 +1,8 @@
--- `segment_known::everyday::goes_to` meets its contract: a known position is told by its number.
--- Assumes nothing.
-use mathlib.Core.Path.{_∙_, ap}
+-- `segment_known::everyday::goes_to` meets its contract: a known position is told by its number. Assumes nothing.
+use mathlib.Core.Path.{ap, _∙_}
 use Rattle.knowing.specs.Standing.{known}
 use Rattle.standing.specs.View.{stands}
+use Rattle.segment_known.specs.Everyday.{shut-deaf}
 use borrow.Author.Needs.{needs}
 use Rattle.segment_known.proofs.everyday.goes_to.Statement.{statement}
 use Rattle.segment_known.proofs.everyday.goes_to.Tie as tie
@@ -20,10 +20,11 @@ returns : tie.Need-returns
 returns c = search needs
 
 returns-2 : tie.Need-returns-2
-returns-2 c = ap stands (c .before .before .position .given .1) ∙ ap known (c .match2 .keys2)
+returns-2 c = search needs
 
 returns-3 : tie.Need-returns-3
-returns-3 c = record { place = c .before .before .position .given .0 .0; there = ap stands (c .before .before .position .given .1); not-first = c .match2 .rest .1; not-open = c .match2 .rest .0 .1 }
+returns-3 c = let a = c .before .before .before .before .args in
+    shut-deaf (a .family) (a .c) _ (ap stands (c .before .before .position .given .1)) (c .match2 .rest .1) (c .match2 .rest .0 .1)
 
 returns-4 : tie.Need-returns-4
 returns-4 c = search needs

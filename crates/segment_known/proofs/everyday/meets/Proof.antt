@@ -1,7 +1,4 @@
--- `segment_known::everyday::meets` meets its contract: each arm has as many cells as its part.
--- Assumes nothing.
-use native.Mathlib.Omega.{arith}
-use Rattle.lamps.specs.Lamp.{wide8}
+-- `segment_known::everyday::meets` meets its contract: each arm has as many cells as its part. Assumes nothing.
 use Rattle.segment.specs.Family.{sizes}
 use borrow.Author.Needs.{needs}
 use Rattle.segment_known.proofs.everyday.meets.Statement.{statement}
@@ -10,37 +7,37 @@ use Rattle.segment_known.proofs.everyday.meets.Tie as tie
 enum-told : tie.Need-enum-told
 enum-told c = search needs
 
-meet-all-requires : tie.Need-meet-all-requires
-meet-all-requires c κs = (omega arith, λ j h. omega (arith, c .before .before .before .before .pre, h))
+meet-run-requires : tie.Need-meet-run-requires
+meet-run-requires c κs = search needs
 
 enum-told-2 : tie.Need-enum-told-2
 enum-told-2 c = search needs
 
-meet-all-requires-2 : tie.Need-meet-all-requires-2
-meet-all-requires-2 c κs = (omega arith, λ j h. omega (arith, c .before .before .before .before .pre, h))
+meet-run-requires-2 : tie.Need-meet-run-requires-2
+meet-run-requires-2 c κs = search needs
 
 same-length : tie.Need-same-length
 same-length c = search needs
 
 returns : tie.Need-returns
 unfolding sizes
-returns c = rw (c .before .before .before .before .enum-told .given .1) (c .before .before .meet-all .ensures 8 wide8)
+returns c = rw (c .before .before .before .before .enum-told .given .1) (c .before .before .meet-run .ensures)
 
 same-length-2 : tie.Need-same-length-2
 same-length-2 c = search needs
 
 returns-2 : tie.Need-returns-2
 unfolding sizes
-returns-2 c = rw (c .before .before .before .before .enum-told2 .given .1) (c .before .before .meet-all2 .ensures 8 wide8)
+returns-2 c = rw (c .before .before .before .before .enum-told2 .given .1) (c .before .before .meet-run2 .ensures)
 
 pub meets-spec : {M : Type 1} → statement M
 meets-spec =
     tie.close
     (tie.spec
     enum-told
-    meet-all-requires
+    meet-run-requires
     enum-told-2
-    meet-all-requires-2
+    meet-run-requires-2
     same-length
     returns
     same-length-2

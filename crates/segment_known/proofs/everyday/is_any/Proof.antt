@@ -1,0 +1,22 @@
+-- `segment_known::everyday::is_any` meets its contract: only unknown passes. Assumes nothing.
+use mathlib.Core.Path.{sym, ap}
+use mathlib.Core.Bool.{true≢false}
+use Rattle.standing.specs.View.{stands}
+use borrow.Author.Needs.{needs}
+use Rattle.segment_known.proofs.everyday.is_any.Statement.{statement}
+use Rattle.segment_known.proofs.everyday.is_any.Tie as tie
+
+enum-told : tie.Need-enum-told
+enum-told c = search needs
+
+enum-told-2 : tie.Need-enum-told-2
+enum-told-2 c = search needs
+
+returns : tie.Need-returns
+returns c = λ e. absurd (true≢false (sym e))
+
+returns-2 : tie.Need-returns-2
+returns-2 c = λ e. ap stands (c .enum-told2 .given .1)
+
+pub is-any-spec : {M : Type 1} → statement M
+is-any-spec = tie.close (tie.spec enum-told enum-told-2 returns returns-2)
