@@ -40,9 +40,10 @@ impl Checksum {
         }
     }
 
+    /// Of the place the low two bytes count, and packets may bring more than those hold.
     pub fn take_answer(&mut self, answer: Answer) {
         self.take(u64::from(answer.number));
-        self.take(answer.place as u64);
+        self.take(answer.place as u64 % 65_536);
     }
 
     pub fn take_knowledge(&mut self, knowledge: &Knowledge) {

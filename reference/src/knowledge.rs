@@ -13,6 +13,16 @@ pub enum Knowledge {
     Pt6315(Pt6315),
 }
 
+/// Which facts one no longer knows, in the words of all parts.
+#[derive(Clone, Copy, Debug, Default, PartialEq, Eq)]
+pub struct Forgotten {
+    pub position: bool,
+    /// PT6302 has none.
+    pub data_mode: bool,
+    /// All that the part has, and the column.
+    pub addresses: bool,
+}
+
 pub const PT6302: u8 = 0x02;
 pub const PT6312: u8 = 0x12;
 pub const PT6315: u8 = 0x15;
@@ -45,6 +55,16 @@ impl Knowledge {
                 panel.cells.is_partly_known() || panel.led.is_partly_known()
             }
         }
+    }
+
+    /// The same knowledge, with some facts forgotten.
+    pub fn without(mut self, forgotten: Forgotten) -> Self {
+        match &mut self {
+            Knowledge::Pt6302(panel) => panel.forget(forgotten),
+            Knowledge::Pt6312(panel) => panel.forget(forgotten),
+            Knowledge::Pt6315(panel) => panel.forget(forgotten),
+        }
+        self
     }
 
     /// The part is looked at here and nowhere further in.

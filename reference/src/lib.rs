@@ -9,6 +9,7 @@
 //! A recording may come in packets (M-100), and its tail is what stands behind its last gap.
 
 pub mod answer;
+pub mod bench_input;
 pub mod bits;
 pub mod cells;
 pub mod character_panel;
@@ -51,4 +52,5 @@ pub mod trial_temperatures;
 pub mod trial_thermo_inputs;
 pub mod trial_updates;
 pub mod update;
+pub mod work_load_starts;
 pub mod work_loads;

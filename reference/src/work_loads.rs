@@ -1,13 +1,18 @@
-//! The recordings that the benchmark replays: for each part a panel painted over and over, one whose address
-//! is lost, and one with many gaps.
+//! The recordings that the benchmark takes: for each part a panel painted over and over, one whose address is lost and
+//! one with many gaps, each as long as may be; the first bytes of the paintings; and short ones from a start of which
+//! all but a fact is known.
 
 use crate::answer::LONGEST;
-use crate::knowledge::{PT6302, PT6312, PT6315};
+use crate::knowledge::{PARTS, PT6302, PT6315};
 use crate::painting::{paint_any, paint_from};
 use crate::random::Random;
 use crate::recording::Recording;
+use crate::work_load_starts::{partly_known, Start};
 
-type Maker = fn(part: u8, random: &mut Random) -> Recording;
+/// What a packet holds at most, and how long the recordings from partly known starts are.
+pub const SHORT: usize = 1_500;
+
+type Maker = fn(part: u8, length: usize, random: &mut Random) -> Recording;
 
 const MAKERS: [(&str, Maker); 3] = [
     ("repainted", repainted),
@@ -15,30 +20,71 @@ const MAKERS: [(&str, Maker); 3] = [
     ("gaps", many_gaps),
 ];
 
+/// A painting of PT6312 behind power is 67 bytes long.
+const CALLS: [usize; 3] = [0, 67, SHORT];
+const GROWING: [usize; 3] = [1_000, 10_000, LONGEST];
+
+/// A recording, what is known before it, and the table of the benchmark that it is for.
 pub struct WorkLoad {
+    pub table: &'static str,
     pub name: String,
     pub part: u8,
+    pub start: Start,
     pub recording: Recording,
 }
 
-/// All nine, each as long as a recording may be, and always the same.
+/// All of them, table by table, and always the same.
 pub fn all() -> Vec<WorkLoad> {
+    let [characters, keys, more_keys] = PARTS;
+    let parts = [keys, more_keys, characters];
     let mut loads = Vec::new();
-    for (part, part_name) in [(PT6312, "6312"), (PT6315, "6315"), (PT6302, "6302")] {
+    for part in parts {
         for (kind, make) in MAKERS {
-            loads.push(WorkLoad {
-                name: format!("{part_name}-{kind}"),
+            loads.push(from_nothing(
+                "long",
+                kind,
                 part,
-                recording: make(part, &mut Random::new(u64::from(part))),
-            });
+                make(part, LONGEST, &mut seeded(part)),
+            ));
         }
+    }
+    for (table, lengths) in [("growing", GROWING), ("call", CALLS)] {
+        for part in parts {
+            for length in lengths {
+                let recording = repainted(part, length, &mut seeded(part));
+                let kind = format!("first-{length}");
+                loads.push(from_nothing(table, &kind, part, recording));
+            }
+        }
+    }
+    for part in parts {
+        loads.extend(partly_known(part, &mut seeded(part)));
     }
     loads
 }
 
-/// Everything becomes known, and stays so.
-fn repainted(part: u8, random: &mut Random) -> Recording {
-    let mut recording = Recording::up_to(LONGEST);
+fn seeded(part: u8) -> Random {
+    Random::new(u64::from(part))
+}
+
+/// The parts go by their makers' numbers.
+pub fn named(part: u8, kind: &str) -> String {
+    format!("63{part:02X}-{kind}")
+}
+
+fn from_nothing(table: &'static str, kind: &str, part: u8, recording: Recording) -> WorkLoad {
+    WorkLoad {
+        table,
+        name: named(part, kind),
+        part,
+        start: Start::nothing(),
+        recording,
+    }
+}
+
+/// Everything becomes known, and stays so. The shorter of two is the longer's front, up to its last record or strobe.
+fn repainted(part: u8, length: usize, random: &mut Random) -> Recording {
+    let mut recording = Recording::up_to(length);
     recording.power();
     while !recording.is_full() {
         paint_any(&mut recording, part, random);
@@ -47,8 +93,8 @@ fn repainted(part: u8, random: &mut Random) -> Recording {
 }
 
 /// Long runs of bytes fall at an unknown address; now and then a painting makes the panel known again.
-fn lost_address(part: u8, random: &mut Random) -> Recording {
-    let mut recording = Recording::up_to(LONGEST);
+fn lost_address(part: u8, length: usize, random: &mut Random) -> Recording {
+    let mut recording = Recording::up_to(length);
     while !recording.is_full() {
         if random.once_in(4) {
             paint_any(&mut recording, part, random);
@@ -93,8 +139,8 @@ fn lost_among_known_cells(recording: &mut Recording, random: &mut Random) {
 }
 
 /// About one record in twenty is a gap; strobes and any bytes stand between them.
-fn many_gaps(_part: u8, random: &mut Random) -> Recording {
-    let mut recording = Recording::up_to(LONGEST);
+fn many_gaps(_part: u8, length: usize, random: &mut Random) -> Recording {
+    let mut recording = Recording::up_to(length);
     while !recording.is_full() {
         match random.below(20) {
             0 => recording.gap(),

@@ -1,25 +1,28 @@
-// Takes one recording many times, whole or in packets, and prints a checksum of what was known at each end, for `tools/bench` to measure.
+// Takes one recording many times, whole or in packets, and prints a checksum of what came out, for `tools/bench` to measure.
 //
-// Standard input is the number of rounds and the size of a packet, each in two bytes, the low byte first, then what the mirror reads: the part byte and
-// a recording. With the size 0 a round replays the whole recording; else it takes packets of that size, of which the last may be shorter, and closes.
-// Each round starts from knowing nothing, and its answer and every fact that it ends with go into the checksum, so that no round can be left out.
-mod ending;
+// Standard input is the number of rounds in four bytes, the size of a packet and that of a prelude in two bytes each, the low byte first; a mark each for the
+// position, the data mode and the addresses; and then the part byte, the prelude and the recording. The prelude is replayed once, by one who knows nothing, and what has a
+// mark other than 0 is forgotten: that is what each round starts from. With the size 0 a round replays the whole recording; else it takes packets of that size, of which the last
+// has what is left, and closes. Every round's answer goes into the checksum, and then every fact that the last one ends with.
 mod packeted;
 mod rounds;
+mod start;
 
 use checksum::Sum;
 use input::Input;
 use input::read_input;
 use libc::STDOUT_FILENO;
 use rounds::summed;
+use start::Marks;
+use start::started;
 ghost use mathlib.Core.Path.{_≡_};
 ghost use Prim.Native.Nat.{_<_};
-ghost use lib.ListN.{getD, drop};
+ghost use lib.ListN.{getD, take, drop};
 ghost use Rattle.bench.specs.Rounds.{numberAt, Measures};
 
-// As the mirror does, it takes a byte more than the longest recording that is allowed.
+// Behind the longest prelude there is room for a byte more than the longest recording that is allowed, as the mirror takes it.
 fn main() {
-    let mut input = [0u8; 65541];
+    let mut input = [0u8; 131083];
     match read_input(&mut input) {
         Input::Whole(n) => print(measured(&input[..n])),
         Input::Full => print(measured(&input)),
@@ -37,17 +40,24 @@ fn print(sum: Sum) {
 fn measured(input: &[u8]) -> Sum
     ensures { λ r. ⌜ Measures (now (input .entry)) (r .0) ⌝ }
 {
-    let rounds = number(input, 0);
-    let size = number(input, 2);
-    let part = byte(input, 4);
-    let recording = recording_of(input);
-    summed(rounds, size, part, recording)
+    let rounds = number(input, 0) + number(input, 2) * 65536;
+    let size = number(input, 4);
+    let prelude = number(input, 6);
+    let marks = Marks {
+        position: byte(input, 8),
+        data: byte(input, 9),
+        addresses: byte(input, 10),
+    };
+    let part = byte(input, 11);
+    let rest = behind(input, 12);
+    let start = started(marks, part, front(rest, prelude));
+    summed(rounds, size, part, start, behind(rest, prelude))
 }
 
 // In two bytes, the low byte first.
 fn number(input: &[u8], i: usize) -> usize
-    requires { ⌜ i < 4 ⌝ }
-    ensures { λ r. ⌜ r ≡ numberAt (now (input .entry)) i ⌝ }
+    requires { ⌜ i < 8 ⌝ }
+    ensures { λ r. ⌜ (r ≡ numberAt (now (input .entry)) i) × (r < 65536) ⌝ }
 {
     let low = byte(input, i);
     let high = byte(input, i + 1);
@@ -61,12 +71,20 @@ fn byte(input: &[u8], i: usize) -> u8
     if i < input.len() { input[i] } else { 0 }
 }
 
-fn recording_of(input: &[u8]) -> &[u8]
-    ensures { λ r. ⌜ now r ≡ drop 5 (now (input .entry)) ⌝ }
+// The first n bytes, or all where there are fewer.
+fn front(bytes: &[u8], n: usize) -> &[u8]
+    ensures { λ r. ⌜ now r ≡ take n (now (bytes .entry)) ⌝ }
 {
-    if input.len() < 5 {
-        &input[..0]
+    if n < bytes.len() { &bytes[..n] } else { bytes }
+}
+
+// What stands behind those.
+fn behind(bytes: &[u8], n: usize) -> &[u8]
+    ensures { λ r. ⌜ now r ≡ drop n (now (bytes .entry)) ⌝ }
+{
+    if n < bytes.len() {
+        &bytes[n..]
     } else {
-        &input[5..]
+        &bytes[..0]
     }
 }

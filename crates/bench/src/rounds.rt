@@ -1,37 +1,51 @@
-// The rounds, each from knowing nothing.
-use crate::ending::ended;
+// The rounds, each from the same start.
 use crate::packeted::in_packets;
 use checksum::Sum;
+use checksum::answer_in;
+use checksum::panel_in;
+use panel::Panel;
+use replay::Replayed;
+use replay::replay;
+use terms::PartRead;
 use terms::Place;
-ghost use Rattle.bench.specs.Rounds.{Whole, Round, Rounds};
+use terms::part_of;
+ghost use mathlib.Core.Path.{_≡_};
+ghost use Rattle.terms.specs.Part.{partOf};
+ghost use Rattle.checksum.specs.Panels.{partSum};
+ghost use Rattle.bench.specs.Rounds.{Round, Summed};
 
-pub fn summed(rounds: usize, size: usize, part: u8, recording: &[u8]) -> Sum
-    ensures { λ r. ⌜ Rounds size part (now (recording .entry)) rounds 0 (r .0) ⌝ }
+pub fn summed(rounds: usize, size: usize, part: u8, start: Panel, recording: &[u8]) -> Sum
+    ensures { λ r. ⌜ Summed size part start (now (recording .entry)) rounds (r .0) ⌝ }
 {
     let mut sum = Sum(0);
+    let mut last = start;
     let mut i = 0;
     while i < rounds {
-        sum = round(sum, size, part, recording);
+        let ended = round(size, part, start, recording);
+        let answer = ended.answer;
+        sum = answer_in(sum, answer);
+        last = ended.panel;
         i += 1;
     }
-    sum
+    known_in(sum, part, last)
 }
 
-fn round(sum: Sum, size: usize, part: u8, recording: &[u8]) -> Sum
-    ensures { λ r. ⌜ Round size part (now (recording .entry)) (sum .0) (r .0) ⌝ }
+fn round(size: usize, part: u8, start: Panel, recording: &[u8]) -> Replayed
+    ensures { λ r. ⌜ Round size part start (now (recording .entry)) r ⌝ }
 {
     if size == 0 {
-        whole(sum, part, recording)
+        replay(part, start, recording, Place(0))
     } else {
-        in_packets(sum, size, part, recording)
+        in_packets(size, part, start, recording)
     }
 }
 
-fn whole(sum: Sum, part: u8, recording: &[u8]) -> Sum
-    ensures { λ r. ⌜ Whole part (now (recording .entry)) (sum .0) (r .0) ⌝ }
+// The checksum with what is known of the part.
+fn known_in(sum: Sum, part: u8, panel: Panel) -> Sum
+    ensures { λ r. ⌜ r .0 ≡ partSum (sum .0) (partOf part) panel ⌝ }
 {
-    let replayed = replay::replay(part, panel::nothing_known(), recording, Place(0));
-    let answer = replayed.answer;
-    let after = replayed.panel;
-    ended(sum, part, answer, after)
+    match part_of(part) {
+        PartRead::Is(is) => panel_in(sum, is, panel),
+        PartRead::Refused(_) => sum,
+    }
 }

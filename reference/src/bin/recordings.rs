@@ -1,5 +1,7 @@
-//! Writes the benchmark's recordings, each behind its part byte, into a directory, and prints their sizes.
+//! Writes the benchmark's recordings into a directory, each behind what stands before it in the benchmark's input but
+//! the rounds and the size of a packet, and prints the table that each is for, its name, and how many records it has.
 
+use reference::bench_input::load_bytes;
 use reference::work_loads;
 use std::path::PathBuf;
 use std::{env, fs, io, process};
@@ -11,10 +13,15 @@ fn main() -> io::Result<()> {
     };
     fs::create_dir_all(&directory)?;
     for load in work_loads::all() {
-        let mut file = vec![load.part];
-        file.extend_from_slice(load.recording.bytes());
+        let (prelude, recording) = (&load.start.prelude, &load.recording);
+        let file = load_bytes(
+            load.part,
+            prelude.bytes(),
+            load.start.forgotten,
+            recording.bytes(),
+        );
         fs::write(directory.join(&load.name), file)?;
-        println!("{} {}", load.name, load.recording.records());
+        println!("{} {} {}", load.table, load.name, recording.records());
     }
     Ok(())
 }

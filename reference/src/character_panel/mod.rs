@@ -6,6 +6,7 @@ mod moves;
 use crate::bits::Pair;
 use crate::cells::Cells;
 use crate::fact::at_most;
+use crate::knowledge::Forgotten;
 
 pub const CHARACTERS: u8 = 8;
 pub const COLUMNS: u8 = 5;
@@ -46,6 +47,18 @@ pub struct Pt6302 {
 }
 
 impl Pt6302 {
+    pub fn forget(&mut self, forgotten: Forgotten) {
+        if forgotten.position {
+            self.position = None;
+        }
+        if forgotten.addresses {
+            self.dcram_address = None;
+            self.cgram_address = None;
+            self.adram_address = None;
+            self.column = None;
+        }
+    }
+
     fn facts_in_range(&self) -> bool {
         at_most(self.dcram_address, 15)
             && at_most(self.cgram_address, CHARACTERS - 1)

@@ -6,6 +6,7 @@ mod moves;
 use crate::bits::Nibble;
 use crate::cells::Cells;
 use crate::fact::at_most;
+use crate::knowledge::Forgotten;
 
 /// Where the next write goes; every address past the last cell is the same "invalid".
 #[derive(Clone, Copy, Debug, PartialEq, Eq)]
@@ -62,6 +63,20 @@ pub struct KeyPanel<const CELLS: usize, const KEYS: usize> {
 
 pub type Pt6312 = KeyPanel<22, 3>;
 pub type Pt6315 = KeyPanel<36, 4>;
+
+impl<const CELLS: usize, const KEYS: usize> KeyPanel<CELLS, KEYS> {
+    pub fn forget(&mut self, forgotten: Forgotten) {
+        if forgotten.position {
+            self.position = None;
+        }
+        if forgotten.data_mode {
+            self.data_mode = None;
+        }
+        if forgotten.addresses {
+            self.address = None;
+        }
+    }
+}
 
 /// What sets the two parts apart, beside the number of cells and key bytes.
 pub trait Differences {

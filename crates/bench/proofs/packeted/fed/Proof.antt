@@ -1,9 +1,10 @@
--- `packeted::fed` meets its contract: after each turn the packets up to a place were taken in turn, each ends within the recording and behind where it
--- starts, and at the end the place is the recording's length. Assumes nothing.
-use Prim.Native.Nat.{_≤_, _-_}
+-- `packeted::fed` meets its contract: after each turn the packets up to a place within the recording were taken in turn, and what is left then is
+-- no more than the size. Assumes nothing.
+use Prim.Native.Nat.{_+_, _-_, _≤_}
 use native.Mathlib.Omega.{arith}
-use mathlib.Core.Path.{_≡_}
+use mathlib.Core.Path.{_≡_, refl}
 use lib.ListN.{length}
+use Rattle.recording.specs.Laws.{part-from}
 use Rattle.terms.specs.Part.{partOf}
 use Rattle.bench.specs.Rounds.{Fed, first, next}
 use borrow.Author.Needs.{needs}
@@ -16,17 +17,17 @@ Inv-loop size part recording feed₀ at₀ feed at = (at ≤ length recording) �
 abbrev μ-loop : tie.MeasureT-loop
 μ-loop size part recording feed₀ at₀ feed at = length recording - at
 
-nothing-known-requires : tie.Need-nothing-known-requires Inv-loop μ-loop
-nothing-known-requires c κs = search needs
-
 opened-requires : tie.Need-opened-requires Inv-loop μ-loop
 opened-requires c κs = search needs
 
 loop-holds : tie.Need-loop-holds Inv-loop μ-loop
 loop-holds c = (omega arith, first)
 
-packet-end-requires : tie.Need-packet-end-requires Inv-loop μ-loop
-packet-end-requires c κs = search needs
+sub-loop : tie.Need-sub-loop Inv-loop μ-loop
+sub-loop c = search needs
+
+add-end : tie.Need-add-end Inv-loop μ-loop
+add-end c = search needs
 
 sub-taken : tie.Need-sub-taken Inv-loop μ-loop
 sub-taken c = search needs
@@ -45,19 +46,38 @@ loop-less c = search needs
 
 loop-again : tie.Need-loop-again Inv-loop μ-loop
 loop-again c =
-    let end = c .before .before .before in
-    let loop = end .before .before in
-    (search needs, next (c .before .taken .result) (loop .loop .inv .1) (end .packet-end .ensures .0) (end .packet-end .ensures .2) (c .before .taken .ensures))
+    let turn = c .before .before .before in
+    let loop = turn .before in
+    let a = loop .before .before .before .args in
+    let size : loop .loop .at + a .size - loop .loop .at ≡ a .size = omega arith in
+    (omega arith, next (c .before .taken .result) (loop .loop .inv .1) (omega arith) (rw (← size) (c .before .taken .ensures)))
+
+sub-taken-2 : tie.Need-sub-taken-2 Inv-loop μ-loop
+sub-taken-2 c = search needs
+
+part-taken-start-2 : tie.Need-part-taken-start-2 Inv-loop μ-loop
+part-taken-start-2 c = search needs
+
+part-taken-end-2 : tie.Need-part-taken-end-2 Inv-loop μ-loop
+part-taken-end-2 c = search needs
+
+taken-requires-2 : tie.Need-taken-requires-2 Inv-loop μ-loop
+taken-requires-2 c κs = search needs
 
 returns : tie.Need-returns Inv-loop μ-loop
 returns c =
-    let loop = c .before in
+    let last = c .before in
+    let loop = last .before .before .before in
     let start = loop .before in
-    let all : loop .loop .at ≡ length (start .before .before .before .args .recording .now) = omega arith in
+    let l = start .before .before .args .recording .now in
     record {
-      before = start .before .nothing-known .result;
-      nothing = start .before .nothing-known .ensures;
-      fed = rw (← all, ← start .opened .ensures) (loop .loop .inv .1);
+      at = loop .loop .at;
+      before = loop .loop .feed;
+      fed = rw (← start .opened .ensures) (loop .loop .inv .1);
+      fits = omega arith;
+      last = last .taken2 .result;
+      takes = rw (← part-from (loop .loop .at) l) (last .taken2 .ensures);
+      leaves = refl;
     }
 
 pub fed-spec : {M : Type 1} → statement M
@@ -66,14 +86,18 @@ fed-spec =
     (tie.spec
     Inv-loop
     μ-loop
-    nothing-known-requires
     opened-requires
     loop-holds
-    packet-end-requires
+    sub-loop
+    add-end
     sub-taken
     part-taken-start
     part-taken-end
     taken-requires
     loop-less
     loop-again
+    sub-taken-2
+    part-taken-start-2
+    part-taken-end-2
+    taken-requires-2
     returns)
