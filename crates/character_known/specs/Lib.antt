@@ -4,4 +4,9 @@ pub mod Cells
 pub mod Drawn
 pub mod Columns
 pub mod Position
+pub mod Ram
 pub mod Everyday
+pub mod Lost
+pub mod Open
+pub mod Aimed
+pub mod Runs

@@ -25,7 +25,7 @@ ghost use Rattle.rules.specs.Rule.{gives};
 ghost use Rattle.character.specs.Command.{commandOf};
 ghost use Rattle.character.specs.Move.{commanded};
 ghost use Rattle.character.specs.Value.{lit};
-ghost use Rattle.character_steps.specs.Step.{Keeps, Steps, AllPlain};
+ghost use Rattle.character_steps.specs.Step.{Keeps, Forgets, Steps, AllPlain};
 
 // Every RAM stays, or an undefined command leaves nothing known of any.
 pub fn first_in(c: Control, byte: u8) -> Step
@@ -40,12 +40,12 @@ pub fn first_in(c: Control, byte: u8) -> Step
         Command::Duty(duty) => kept(duty_set(c, duty)),
         Command::Digits(digits) => kept(digits_set(c, digits)),
         Command::Light(lights) => kept(lights_set(c, lights)),
-        Command::Nothing => kept(at(c, IGNORING)),
-        Command::Undefined => forgotten(at(no_control(), IGNORING)),
+        Command::Nothing => kept(ignoring_on(c)),
+        Command::Undefined => forgotten(undefined_in()),
     }
 }
 
-fn show_from(c: Control, address: Address) -> Control
+pub fn show_from(c: Control, address: Address) -> Control
     ensures { λ r. ⌜ Keeps (gives (commanded (Command.Dcram address))) c r ⌝ }
 {
     Control {
@@ -55,7 +55,7 @@ fn show_from(c: Control, address: Address) -> Control
     }
 }
 
-fn draw_from(c: Control, address: Address) -> Control
+pub fn draw_from(c: Control, address: Address) -> Control
     ensures { λ r. ⌜ Keeps (gives (commanded (Command.Cgram address))) c r ⌝ }
 {
     Control {
@@ -66,7 +66,7 @@ fn draw_from(c: Control, address: Address) -> Control
     }
 }
 
-fn mark_from(c: Control, address: Address) -> Control
+pub fn mark_from(c: Control, address: Address) -> Control
     ensures { λ r. ⌜ Keeps (gives (commanded (Command.Adram address))) c r ⌝ }
 {
     Control {
@@ -76,7 +76,7 @@ fn mark_from(c: Control, address: Address) -> Control
     }
 }
 
-fn port_set(c: Control, bits: u8) -> Control
+pub fn port_set(c: Control, bits: u8) -> Control
     ensures { λ r. ⌜ Keeps (gives (commanded (Command.Port bits))) c r ⌝ }
 {
     let old = c.port;
@@ -88,7 +88,7 @@ fn port_set(c: Control, bits: u8) -> Control
     }
 }
 
-fn duty_set(c: Control, duty: u8) -> Control
+pub fn duty_set(c: Control, duty: u8) -> Control
     ensures { λ r. ⌜ Keeps (gives (commanded (Command.Duty duty))) c r ⌝ }
 {
     Control {
@@ -98,7 +98,7 @@ fn duty_set(c: Control, duty: u8) -> Control
     }
 }
 
-fn digits_set(c: Control, digits: u8) -> Control
+pub fn digits_set(c: Control, digits: u8) -> Control
     ensures { λ r. ⌜ Keeps (gives (commanded (Command.Digits digits))) c r ⌝ }
 {
     Control {
@@ -108,7 +108,7 @@ fn digits_set(c: Control, digits: u8) -> Control
     }
 }
 
-fn lights_set(c: Control, lights: Lights) -> Control
+pub fn lights_set(c: Control, lights: Lights) -> Control
     ensures { λ r. ⌜ Keeps (gives (commanded (Command.Light lights))) c r ⌝ }
 {
     let number = lights_number(lights);
@@ -117,6 +117,20 @@ fn lights_set(c: Control, lights: Lights) -> Control
         position: Standing::Known(IGNORING),
         ..c
     }
+}
+
+// Nothing is done, and what follows is ignored.
+pub fn ignoring_on(c: Control) -> Control
+    ensures { λ r. ⌜ Keeps (gives (commanded Command.Nothing)) c r ⌝ }
+{
+    at(c, IGNORING)
+}
+
+// Everything becomes anything, and what follows is ignored.
+pub fn undefined_in() -> Control
+    ensures { λ r. ⌜ ((c : Control) → Forgets (gives (commanded Command.Undefined)) c r) ⌝ }
+{
+    at(no_control(), IGNORING)
 }
 
 fn lights_number(lights: Lights) -> u8

@@ -1,10 +1,24 @@
 // What one event makes of what is known of a PT6302 panel: exactly what all chips that fit agree on.
+mod astray;
 mod bytes;
 mod columns;
 mod commanded;
 mod everyday;
+mod lost;
 mod moves;
+mod stored;
 
+pub use astray::Astray;
+pub use astray::strays;
+pub use commanded::digits_set;
+pub use commanded::draw_from;
+pub use commanded::duty_set;
+pub use commanded::ignoring_on;
+pub use commanded::lights_set;
+pub use commanded::mark_from;
+pub use commanded::port_set;
+pub use commanded::show_from;
+pub use commanded::undefined_in;
 pub use everyday::Target;
 pub use everyday::column_at;
 pub use everyday::drawn_on;
@@ -13,5 +27,9 @@ pub use everyday::goes_to;
 pub use everyday::marked_on;
 pub use everyday::rises;
 pub use everyday::shown_on;
+pub use lost::nothing_known;
 pub use moves::moved;
 pub use moves::taken;
+pub use stored::drawn_by;
+pub use stored::marked_by;
+pub use stored::shown_by;

@@ -1,12 +1,8 @@
 -- `character_known::commanded::first_in` meets its contract: each command goes by its rule.
 -- Assumes nothing.
-use mathlib.Core.Path.{refl, sym, ap, _∙_}
-use Rattle.knowing.specs.Ways.{learnt}
+use mathlib.Core.Path.{sym, ap, _∙_}
 use Rattle.rules.specs.Rule.{gives}
-use Rattle.character.specs.Fact.{same?, dcramAt, cgramAt, adramAt, column, port, duty, digits, lights, position}
-use Rattle.character.specs.Laws.{every, port-undefined}
 use Rattle.character.specs.Move.{commanded}
-use Rattle.character_knowledge.specs.View.{blank, cview}
 use Rattle.character_steps.specs.Steps.{kept-steps, forgotten-steps, kept-plain, forgotten-plain, same-rule}
 use borrow.Author.Needs.{needs}
 use Rattle.character_known.proofs.commanded.first_in.Statement.{statement}
@@ -81,8 +77,8 @@ kept-requires-7 c κs = search needs
 enum-told : tie.Need-enum-told
 enum-told c = search needs
 
-at-requires : tie.Need-at-requires
-at-requires c κs = search needs
+ignoring-on-requires : tie.Need-ignoring-on-requires
+ignoring-on-requires c κs = search needs
 
 kept-requires-8 : tie.Need-kept-requires-8
 kept-requires-8 c κs = search needs
@@ -90,11 +86,8 @@ kept-requires-8 c κs = search needs
 enum-told-2 : tie.Need-enum-told-2
 enum-told-2 c = search needs
 
-no-control-requires : tie.Need-no-control-requires
-no-control-requires c κs = search needs
-
-at-requires-2 : tie.Need-at-requires-2
-at-requires-2 c κs = search needs
+undefined-in-requires : tie.Need-undefined-in-requires
+undefined-in-requires c κs = search needs
 
 forgotten-requires : tie.Need-forgotten-requires
 forgotten-requires c κs = search needs
@@ -121,15 +114,10 @@ returns-7 : tie.Need-returns-7
 returns-7 c = (same-rule (ap (λ x. gives (commanded x)) (sym (c .before .before .before .before .before .command-of .ensures) ∙ c .before .before .before .command7 .given .1)) (kept-steps (c .kept7 .ensures) (c .before .lights-set .ensures)), kept-plain (c .kept7 .ensures))
 
 returns-8 : tie.Need-returns-8
-returns-8 c = (same-rule (ap (λ x. gives (commanded x)) (sym (c .before .before .before .before .command-of .ensures) ∙ c .before .before .enum-told .given .1)) (kept-steps (c .kept8 .ensures) (λ m. learnt (cview m) same? _ _ position 5 (c .before .at .ensures m))), kept-plain (c .kept8 .ensures))
+returns-8 c = (same-rule (ap (λ x. gives (commanded x)) (sym (c .before .before .before .before .command-of .ensures) ∙ c .before .before .enum-told .given .1)) (kept-steps (c .kept8 .ensures) (c .before .ignoring-on .ensures)), kept-plain (c .kept8 .ensures))
 
 returns-9 : tie.Need-returns-9
-returns-9 c = let u = c .before .before .no-control .ensures in
-    let e = c .before .at2 .ensures blank in (
-      same-rule (ap (λ x. gives (commanded x)) (sym (c .before .before .before .before .before .command-of .ensures) ∙ c .before .before .before .enum-told2 .given .1))
-          (forgotten-steps (c .forgotten .ensures) (λ m. every _ (λ i k. refl) (λ i k. refl) (λ i k. refl) (e dcramAt ∙ u dcramAt) (e cgramAt ∙ u cgramAt) (e adramAt ∙ u adramAt) (e column ∙ u column) (λ k. rw (port-undefined k) (e (port k) ∙ u (port k))) (e duty ∙ u duty) (e digits ∙ u digits) (e lights ∙ u lights) (e position))),
-      forgotten-plain (c .forgotten .ensures),
-    )
+returns-9 c = (same-rule (ap (λ x. gives (commanded x)) (sym (c .before .before .before .before .command-of .ensures) ∙ c .before .before .enum-told2 .given .1)) (forgotten-steps (c .forgotten .ensures) (c .before .undefined-in .ensures (c .before .before .before .before .before .args .c))), forgotten-plain (c .forgotten .ensures))
 
 pub first-in-spec : {M : Type 1} → statement M
 first-in-spec =
@@ -158,11 +146,10 @@ first-in-spec =
     lights-set-requires
     kept-requires-7
     enum-told
-    at-requires
+    ignoring-on-requires
     kept-requires-8
     enum-told-2
-    no-control-requires
-    at-requires-2
+    undefined-in-requires
     forgotten-requires
     returns
     returns-2
