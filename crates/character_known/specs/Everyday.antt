@@ -1,67 +1,54 @@
--- A data byte whose place is known: everything that its rule looks at is known, and in range, so only its RAM's rule is left.
-use Prim.Native.Nat.{ℕ, _+_, _*_, _<_}
-use mathlib.Core.Path.{_≡_, subst}
-use Rattle.rules.specs.Rule.{look}
+-- Where a byte goes, as the code tells it, and what the first byte behind a fall does.
+use Prim.Native.Nat.{ℕ}
+use mathlib.Core.Path.{_≡_, refl, subst, subst⁻¹}
+use Rattle.rules.specs.Rule.{gives}
 use Rattle.knowing.specs.Standing.{known}
+use Rattle.knowing.specs.Ways as Ways
 use Rattle.standing.specs.View.{stands}
-use Rattle.terms.specs.declared.Address.{Address}
-use Rattle.terms.specs.declared.Event.the-variants.{ByteIn}
-use Rattle.character.specs.declared.chip.Position.the-variants.{Dcram, Cgram, Adram}
-use Rattle.character.specs.Value.{at-position}
-use Rattle.character.specs.Fact.{dcramAt, cgramAt, adramAt, column, position}
-use Rattle.character.specs.Move.{shown, marked, drawn, byteIn, move}
+use Rattle.terms.specs.declared.Event.the-variants.{ByteIn, Falls}
+use Rattle.character.specs.declared.command.Command.{Command}
+use Rattle.character.specs.Command.{commandOf}
+use Rattle.character.specs.Fact.{same?, range, position}
+use Rattle.character.specs.Move.{nothing, commanded, byteIn, move}
 use Rattle.character_knowledge.specs.declared.control.Control.{Control}
-use Rattle.character_knowledge.specs.View.{points}
-use Rattle.character_steps.specs.declared.steps.Step.{Step}
+use Rattle.character_knowledge.specs.View.{Memory, blank, cview}
+use Rattle.character_steps.specs.Step.{Keeps, Forgets}
 use Rattle.character_known.specs.declared.everyday.Target.{Target}
-use Rattle.character_known.specs.declared.everyday.Target.the-variants.{Shown, Drawn, Marked, Elsewhere}
-use Rattle.character_steps.specs.Step.{Steps}
-use Rattle.character_steps.specs.Steps.{known-step}
+use Rattle.character_known.specs.declared.everyday.Target.the-variants.{Shown, Drawn, Marked, Nowhere, Elsewhere}
+use Rattle.character_known.specs.Position.{other-place}
+use Rattle.character_known.specs.Ram.{text, columns, pairs, Aims}
 
--- At DCRAM, and the address is cell n.
-pub record Showing (c : Control) (n : ℕ) : Type 0 where
-  pub here : stands (c .position) ≡ known (at-position Dcram)
-  pub address : points (c .«dcram_at») ≡ known n
-  pub inside : n < 16
+-- No byte changes anything.
+abbrev pub Deaf : Control → Type 0
+Deaf c = (b : ℕ) → Keeps (move (ByteIn b)) c c
 
--- At CGRAM, and the address is column k of character n.
-pub record Drawing (c : Control) (n k : ℕ) : Type 0 where
-  pub here : stands (c .position) ≡ known (at-position Cgram)
-  pub address : points (c .«cgram_at») ≡ known n
-  pub column : stands (c .column) ≡ known k
-  pub inside : n < 8
-  pub within : k < 5
-
--- At ADRAM, and the address is cell n.
-pub record Marking (c : Control) (n : ℕ) : Type 0 where
-  pub here : stands (c .position) ≡ known (at-position Adram)
-  pub address : points (c .«adram_at») ≡ known n
-  pub inside : n < 16
+-- That is so where the position is none that a byte has a meaning at.
+pub deaf : (c : Control) (n : ℕ) → stands (c .position) ≡ known n → ¬ (n ≡ 1) → ¬ (n ≡ 2) → ¬ (n ≡ 3) → ¬ (n ≡ 4) → Deaf c
+deaf c n e p q r s b m =
+    Ways.known-way (cview m) (cview m) same? range position (byteIn b) c c n e
+    (Ways.as-rule (cview m) (cview m) same? range (byteIn b n) nothing c c (other-place _ _ _ _ n p q r s) (λ f. refl))
 
 -- What a target says of the control.
 abbrev pub Hits : Control → Target → Type 0
-Hits c (Shown a) = Showing c (a .0)
-Hits c (Drawn a k) = Drawing c (a .0) k
-Hits c (Marked a) = Marking c (a .0)
+Hits c (Shown a) = Aims text c (a .0)
+Hits c (Drawn a) = Aims columns c (a .0)
+Hits c (Marked a) = Aims pairs c (a .0)
+Hits c Nowhere = Deaf c
 Hits c Elsewhere = Unit
 
 -- Said of a target that is another, in name.
 pub hit : (c : Control) {t u : Target} → t ≡ u → Hits c t → Hits c u
 hit c e h = subst (λ (x : Target). Hits c x) e h
 
--- Column k of character n is number 5 n + k of CGRAM.
-abbrev pub columnAt : ℕ → ℕ → Address
-columnAt n k = record { 0 = n * 5 + k }
+-- Behind a fall the next byte is a first byte, and so a command.
+module _ (b : ℕ) {x : Command} {c begun r : Control} (fallen : Keeps (move Falls) c begun) (said : commandOf b ≡ x) where
+  ruled : (m n : Memory) → Ways.Knows (cview m) (cview n) same? range (gives (commanded x)) begun r → Ways.Knows (cview m) (cview n) same? range (move (ByteIn b)) begun r
+  ruled m n h =
+      Ways.known-way (cview m) (cview n) same? range position (byteIn b) begun r 1 (fallen m position)
+      (subst⁻¹ (λ (y : Command). Ways.Knows (cview m) (cview n) same? range (gives (commanded y)) begun r) said h)
 
--- What a byte does whose place is known is what its RAM's rule does there.
-module _ {c : Control} {r : Step} (b : ℕ) where
-  pub to-dcram : {n : ℕ} → Showing c n → Steps (shown b n) c r → Steps (move (ByteIn b)) c r
-  to-dcram {n} h s = known-step position (byteIn b) c r 2 (λ m. h .here) (known-step dcramAt (shown b) c r n (λ m. h .address) s)
+  pub first-kept : Keeps (gives (commanded x)) begun r → Keeps (move (ByteIn b)) begun r
+  first-kept h m = ruled m m (h m)
 
-  pub to-cgram : {n k : ℕ} → Drawing c n k → Steps (drawn b n k) c r → Steps (move (ByteIn b)) c r
-  to-cgram {n} {k} h s =
-      known-step position (byteIn b) c r 3 (λ m. h .here)
-      (known-step cgramAt (λ a. look column (drawn b a)) c r n (λ m. h .address) (known-step column (drawn b n) c r k (λ m. h .column) s))
-
-  pub to-adram : {n : ℕ} → Marking c n → Steps (marked b n) c r → Steps (move (ByteIn b)) c r
-  to-adram {n} h s = known-step position (byteIn b) c r 4 (λ m. h .here) (known-step adramAt (marked b) c r n (λ m. h .address) s)
+  pub first-forgot : Forgets (gives (commanded x)) begun r → Forgets (move (ByteIn b)) begun r
+  first-forgot h m = ruled m blank (h m)

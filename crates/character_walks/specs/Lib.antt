@@ -1,2 +1,3 @@
 pub mod Walks
-pub mod Arrives
+pub mod Reached
+pub mod Runs

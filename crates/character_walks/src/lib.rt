@@ -1,18 +1,37 @@
 // The walk for PT6302.
-use changes::put;
+mod astray;
+mod rows;
+
+use crate::astray::stray_run;
+use crate::rows::forget_all;
+use byte_runs::passed;
+use byte_runs::put_run;
+use character::Command;
+use character::command_of;
 use character_knowledge::Knowledge;
+use character_knowledge::no_control;
 use character_known::Target;
-use character_known::column_at;
-use character_known::drawn_on;
+use character_known::digits_set;
+use character_known::draw_from;
+use character_known::drawn_by;
+use character_known::duty_set;
 use character_known::falls;
 use character_known::goes_to;
-use character_known::marked_on;
+use character_known::ignoring_on;
+use character_known::lights_set;
+use character_known::mark_from;
+use character_known::marked_by;
+use character_known::port_set;
 use character_known::rises;
-use character_known::shown_on;
+use character_known::show_from;
+use character_known::shown_by;
 use character_known::taken;
+use character_known::undefined_in;
 use lamps::EIGHT;
 use lamps::SEVEN;
 use lamps::TWO;
+use one_record::Everyday;
+use one_record::everyday_at;
 use one_record::record_at;
 use pointing::place_of;
 use recording::Ending;
@@ -28,7 +47,8 @@ pub struct CharacterWalked {
     pub k: Knowledge,
 }
 
-// The rows are changed where they stand. The events of every day have arms of their own, and cost no call.
+// The rows are changed where they stand. The records of every day have arms of their own, and cost no call; a run of bytes is taken whole, as all of
+// them go where the first one goes. Each arm sets what is known beside the memory here in the loop, so that it stays where it is.
 pub fn character_walk(part: Part, k: Knowledge, bytes: &[u8]) -> CharacterWalked
     ensures { λ r. ⌜ Walks part k (now (bytes .entry)) r ⌝ }
 {
@@ -38,51 +58,98 @@ pub fn character_walk(part: Part, k: Knowledge, bytes: &[u8]) -> CharacterWalked
     let mut control = k.control;
     let mut i = 0;
     while i < bytes.len() {
-        let read = record_at(part, bytes, Place(i));
-        match read {
-            Read::Is(event, length) => {
-                match event {
-                    Event::Falls => control = falls(control),
-                    Event::Rises => control = rises(control),
-                    Event::ByteIn(byte) => {
-                        let to = goes_to(control);
-                        match to {
-                            Target::Shown(cell) => {
-                                put(&mut dcram, EIGHT, cell, byte);
-                                control = shown_on(control, cell);
-                            }
-                            Target::Drawn(character, column) => {
-                                put(&mut cgram, SEVEN, column_at(character, column), byte);
-                                control = drawn_on(control, character, column);
-                            }
-                            Target::Marked(cell) => {
-                                put(&mut adram, TWO, cell, byte);
-                                control = marked_on(control, cell);
-                            }
-                            Target::Elsewhere => control = taken(
-                                control,
-                                &mut dcram,
-                                &mut cgram,
-                                &mut adram,
-                                event,
-                            ),
+        let day = everyday_at(bytes, Place(i));
+        match day {
+            Everyday::Falls => {
+                control = falls(control);
+                i += 1;
+            }
+            Everyday::Strobe(byte) => {
+                let begun = falls(control);
+                let command = command_of(byte);
+                match command {
+                    Command::Dcram(address) => control = show_from(begun, address),
+                    Command::Cgram(address) => control = draw_from(begun, address),
+                    Command::Adram(address) => control = mark_from(begun, address),
+                    Command::Port(bits) => control = port_set(begun, bits),
+                    Command::Duty(duty) => control = duty_set(begun, duty),
+                    Command::Digits(digits) => control = digits_set(begun, digits),
+                    Command::Light(lights) => control = lights_set(begun, lights),
+                    Command::Nothing => control = ignoring_on(begun),
+                    Command::Undefined => {
+                        control = undefined_in();
+                        forget_all(&mut dcram, &mut cgram, &mut adram);
+                    }
+                }
+                i += 3;
+            }
+            Everyday::Rises => {
+                control = rises(control);
+                i += 1;
+            }
+            Everyday::ByteIn(byte) => {
+                let to = goes_to(control);
+                match to {
+                    Target::Shown(cell) => {
+                        let n = put_run(&mut dcram, EIGHT, cell, 16, bytes, Place(i));
+                        control = shown_by(control, cell, n);
+                        i += 2 * n;
+                    }
+                    Target::Drawn(cell) => {
+                        let n = put_run(&mut cgram, SEVEN, cell, 40, bytes, Place(i));
+                        control = drawn_by(control, cell, n);
+                        i += 2 * n;
+                    }
+                    Target::Marked(cell) => {
+                        let n = put_run(&mut adram, TWO, cell, 16, bytes, Place(i));
+                        control = marked_by(control, cell, n);
+                        i += 2 * n;
+                    }
+                    Target::Nowhere => i += 2 * passed(bytes, Place(i)),
+                    Target::Elsewhere => {
+                        let n = stray_run(
+                            control,
+                            &mut dcram,
+                            &mut cgram,
+                            &mut adram,
+                            bytes,
+                            Place(i),
+                        );
+                        if n == 0 {
+                            let event = Event::ByteIn(byte);
+                            control = taken(control, &mut dcram, &mut cgram, &mut adram, event);
+                            i += 2;
+                        } else {
+                            i += 2 * n;
                         }
                     }
-                    _ => control = taken(control, &mut dcram, &mut cgram, &mut adram, event),
                 }
-                i += length;
             }
-            Read::Refused(refusal) => {
-                let at = place_of(refusal, bytes, Place(i));
-                return CharacterWalked {
-                    ending: Ending::Stops(refusal, at),
-                    k: Knowledge {
-                        dcram,
-                        cgram,
-                        adram,
-                        control,
-                    },
-                };
+            Everyday::Gap => {
+                control = no_control();
+                forget_all(&mut dcram, &mut cgram, &mut adram);
+                i += 1;
+            }
+            Everyday::Other => {
+                let read = record_at(part, bytes, Place(i));
+                match read {
+                    Read::Is(event, length) => {
+                        control = taken(control, &mut dcram, &mut cgram, &mut adram, event);
+                        i += length;
+                    }
+                    Read::Refused(refusal) => {
+                        let at = place_of(refusal, bytes, Place(i));
+                        return CharacterWalked {
+                            ending: Ending::Stops(refusal, at),
+                            k: Knowledge {
+                                dcram,
+                                cgram,
+                                adram,
+                                control,
+                            },
+                        };
+                    }
+                }
             }
         }
     }
