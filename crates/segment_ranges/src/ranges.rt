@@ -25,15 +25,23 @@ ghost use Rattle.segment_ranges.specs.Ranges.{SinglesSound, OthersSound}
 pub fn sound(family: Family, k: Knowledge) -> bool
     ensures { λ r. ⌜ Tests r (Sound (range (sizes family)) (kview k)) ⌝ }
 {
-    let sizes = family.sizes();
     let cells = k.cells;
     let control = k.control;
     let keys = control.keys;
-    let memory = both_hold(
-        cells_sound(cells, sizes.cells),
-        keys_sound(keys, sizes.keys),
-    );
-    both_hold(memory, singles_sound(family, control))
+    both_hold(
+        rows_sound(family, cells, keys),
+        singles_sound(family, control),
+    )
+}
+
+// The sizes stand as numbers, so that the compiler knows how far each loop goes.
+fn rows_sound(family: Family, cells: [u16; 36], keys: [u16; 4]) -> bool
+    ensures { λ r. ⌜ (Tests r (LampsSound 8 cells (sizes family .cells) × RowSound keys (sizes family .keys) 256)) × (Small keys) ⌝ }
+{
+    match family {
+        Family::Pt6312 => both_hold(cells_sound(cells, 22), keys_sound(keys, 3)),
+        Family::Pt6315 => both_hold(cells_sound(cells, 36), keys_sound(keys, 4)),
+    }
 }
 
 fn cells_sound(cells: [u16; 36], count: u8) -> bool
