@@ -1,4 +1,6 @@
 pub mod Replay
+pub mod Way
+pub mod Walked
 pub mod FromNothing
 pub mod Unique
 pub mod ByPart

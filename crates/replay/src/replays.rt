@@ -1,19 +1,16 @@
-// The replay for all parts: the part byte is looked at once.
+// The replay for all parts.
+use crate::ways::Way;
+use crate::ways::way_of;
 use answers::Answer;
-use answers::Trial;
 use answers::ended;
+use character_walks::character_walk;
 use panel::Panel;
-use panel_walks::panel_walk;
 use recording::Ending;
-use replay_tests::tried;
+use segment_walks::segment_walk;
 use terms::Part;
-use terms::PartRead;
 use terms::Place;
-use terms::part_of;
-ghost use Prim.Native.Nat.{_≤_};
-ghost use lib.ListN.{length};
 ghost use Rattle.terms.specs.Part.{partOf};
-ghost use Rattle.replay.specs.Replay.{Replays, ReplaysPart, ReplaysFrom};
+ghost use Rattle.replay.specs.Replay.{Replays};
 
 // The answer, and the knowledge: after the recording where it is done, else as it was handed in.
 pub struct Replayed {
@@ -21,44 +18,37 @@ pub struct Replayed {
     pub panel: Panel,
 }
 
+// Places are counted from the front again. The knowledge stands in one place from here to the end, and the walks get no more than their half of it, since each
+// call that takes a panel would copy it.
 pub fn replay(part: u8, panel: Panel, recording: &[u8], start: Place) -> Replayed
     ensures { λ r. ⌜ Replays (partOf part) panel (now (recording .entry)) (start .0) r ⌝ }
 {
-    let read = part_of(part);
-    match read {
-        PartRead::Is(is) => replay_part(is, panel, recording, start),
-        PartRead::Refused(at) => Replayed {
-            answer: Answer::NoPart(at),
-            panel,
-        },
-    }
-}
-
-// Tests 2, 4 and 3, then the records.
-fn replay_part(part: Part, panel: Panel, recording: &[u8], start: Place) -> Replayed
-    ensures { λ r. ⌜ ReplaysPart part panel (now (recording .entry)) (start .0) r ⌝ }
-{
-    let tried = tried(part, panel, recording.len(), start);
-    match tried {
-        Trial::Passed => replay_from(part, panel, recording, start.0),
-        Trial::Refused(answer) => Replayed { answer, panel },
-    }
-}
-
-// The records from a place on; places are counted from the front again, and a refusal hands the knowledge back.
-fn replay_from(part: Part, panel: Panel, recording: &[u8], from: usize) -> Replayed
-    requires { ⌜ (length (now recording) ≤ 65535) × (from ≤ length (now recording)) ⌝ }
-    ensures { λ r. ⌜ ReplaysFrom part panel (now (recording .entry)) from r ⌝ }
-{
-    let walked = panel_walk(part, panel, &recording[from..]);
-    let ending = walked.ending;
-    let after = walked.panel;
-    let answer = ended(ending, from, recording.len());
-    match ending {
-        Ending::Done => Replayed {
-            answer,
-            panel: after,
-        },
-        Ending::Stops(_, _) => Replayed { answer, panel },
+    let mut known = panel;
+    let way = way_of(part, known.segment, known.character, recording.len(), start);
+    let from = start.0;
+    let answer = match way {
+        Way::Refused(answer) => answer,
+        Way::Characters => {
+            let walked = character_walk(Part::Pt6302, known.character, &recording[from..]);
+            let ending = walked.ending;
+            if let Ending::Done = ending {
+                let k = walked.k;
+                known.character = k;
+            }
+            ended(ending, from, recording.len())
+        }
+        Way::Segments(is, family) => {
+            let walked = segment_walk(is, family, known.segment, &recording[from..]);
+            let ending = walked.ending;
+            if let Ending::Done = ending {
+                let k = walked.k;
+                known.segment = k;
+            }
+            ended(ending, from, recording.len())
+        }
+    };
+    Replayed {
+        answer,
+        panel: known,
     }
 }
