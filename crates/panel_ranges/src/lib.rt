@@ -7,15 +7,22 @@ ghost use Rattle.parts.specs.Facts.{range};
 ghost use Rattle.rules.specs.Tests.{Tests};
 ghost use Rattle.panel.specs.View.{knownOf};
 
-// Every known value is in its fact's range.
+// Every known value is in its fact's range. Only the half that is tested is copied.
 pub fn in_range(part: Part, panel: Panel) -> bool
     ensures { λ r. ⌜ Tests r (Sound (range part) (knownOf part panel)) ⌝ }
 {
-    let segment = panel.segment;
-    let character = panel.character;
     match part {
-        Part::Pt6302 => character_ranges::sound(character),
-        Part::Pt6312 => segment_ranges::sound(Family::Pt6312, segment),
-        Part::Pt6315 => segment_ranges::sound(Family::Pt6315, segment),
+        Part::Pt6302 => {
+            let k = panel.character;
+            character_ranges::sound(k)
+        }
+        Part::Pt6312 => {
+            let k = panel.segment;
+            segment_ranges::sound(Family::Pt6312, k)
+        }
+        Part::Pt6315 => {
+            let k = panel.segment;
+            segment_ranges::sound(Family::Pt6315, k)
+        }
     }
 }

@@ -23,13 +23,13 @@ sound-requires-3 : tie.Need-sound-requires-3
 sound-requires-3 c κs = search needs
 
 returns : tie.Need-returns
-returns c = rw (c .before .enum-told .given .1) (c .sound .ensures)
+returns c = rw (c .before .before .enum-told .given .1) (c .sound .ensures)
 
 returns-2 : tie.Need-returns-2
-returns-2 c = rw (c .before .enum-told2 .given .1) (c .sound2 .ensures)
+returns-2 c = rw (c .before .before .enum-told2 .given .1) (c .sound2 .ensures)
 
 returns-3 : tie.Need-returns-3
-returns-3 c = rw (c .before .enum-told3 .given .1) (c .sound3 .ensures)
+returns-3 c = rw (c .before .before .enum-told3 .given .1) (c .sound3 .ensures)
 
 pub in-range-spec : {M : Type 1} → statement M
 in-range-spec =
