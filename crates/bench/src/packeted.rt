@@ -1,27 +1,16 @@
 // A round in packets.
-use feed::Feed;
 use feed::closed;
 use feed::opened;
 use packets::taken;
 use panel::Panel;
 use replay::Replayed;
 ghost use Prim.Native.Nat.{_<_};
-ghost use Rattle.bench.specs.Rounds.{AllFed, InPackets};
+ghost use Rattle.bench.specs.Rounds.{InPackets};
 
+// The last packet has what is left, so that an empty recording is one empty packet.
 pub fn in_packets(size: usize, part: u8, start: Panel, recording: &[u8]) -> Replayed
     requires { ⌜ 0 < size ⌝ }
     ensures { λ r. ⌜ InPackets size part start (now (recording .entry)) r ⌝ }
-{
-    let feed = fed(size, part, start, recording);
-    let answer = closed(part, feed);
-    let panel = feed.panel;
-    Replayed { answer, panel }
-}
-
-// The last packet has what is left, so that an empty recording is one empty packet.
-fn fed(size: usize, part: u8, start: Panel, recording: &[u8]) -> Feed
-    requires { ⌜ 0 < size ⌝ }
-    ensures { λ r. ⌜ AllFed size part start (now (recording .entry)) r ⌝ }
 {
     let mut feed = opened(start);
     let mut at = 0;
@@ -32,5 +21,8 @@ fn fed(size: usize, part: u8, start: Panel, recording: &[u8]) -> Feed
         at = end;
     }
     let last = taken(part, feed, &recording[at..]);
-    last.feed
+    let after = last.feed;
+    let answer = closed(part, after);
+    let panel = after.panel;
+    Replayed { answer, panel }
 }
