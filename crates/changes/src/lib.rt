@@ -7,7 +7,5 @@ pub use change::both_changes;
 pub use change::loosened;
 pub use rows::apply;
 pub use rows::forget;
-pub use rows::meet_all;
 pub use rows::meet_one;
 pub use rows::meet_run;
-pub use rows::put;

@@ -39,7 +39,7 @@ pub fn meet_run(codes: &mut [u16], wide: u16, from: usize, count: usize, c: u16)
     }
 }
 
-pub fn meet_all(codes: &mut [u16], wide: u16, from: Address, by: u8, count: u8, byte: u8)
+fn meet_all(codes: &mut [u16], wide: u16, from: Address, by: u8, count: u8, byte: u8)
     requires { ⌜ Inside (length (now codes)) (Meet from by count byte) ⌝ }
     ensures { λ r. ⌜ ((w : ℕ) → Wide w wide → Changes w (Meet from by count byte) (now (codes .entry)) (now (codes .exit))) ⌝ }
 {
@@ -66,7 +66,7 @@ pub fn apply(codes: &mut [u16], wide: u16, change: Change)
 }
 
 // One code becomes known.
-pub fn put(codes: &mut [u16], wide: u16, cell: Address, byte: u8)
+fn put(codes: &mut [u16], wide: u16, cell: Address, byte: u8)
     requires { ⌜ cell .0 < length (now codes) ⌝ }
     ensures { λ r. ⌜ ((w : ℕ) → Wide w wide → Changes w (Put cell byte) (now (codes .entry)) (now (codes .exit))) ⌝ }
 {
