@@ -1,10 +1,12 @@
 -- A run of bytes of which each may have gone to a code is one meeting with what the bytes have in common. The argument: past the
 -- width nothing is common to them, and nothing is met; within it each byte is joined to what is known, and the joins may be
 -- grouped the other way round, so that the bytes are joined to each other first.
-use Prim.Native.Nat.{ℕ, zero, suc}
+use Prim.Native.Nat.{ℕ, zero, suc, _≤_}
+use native.Mathlib.Nat.{lt-of-lt-of-le}
 use mathlib.Core.Path.{_≡_, refl, sym, ap, _∙_}
 use mathlib.Core.Bool.{Bool, true, false}
 use lib.Dec.{ltb}
+use borrow.Author.Tests.{lt-ltb, ltb-true}
 use Rattle.rules.specs.Choice.{whether}
 use Rattle.rules.specs.Digit.{digit}
 use Rattle.knowing.specs.Standing.{Standing, known, unknown}
@@ -32,6 +34,24 @@ module _ (w : ℕ) (b : ℕ → ℕ) where
       go true = refl
       go false = refl
   met-shared (suc n) k s = more (ltb k w) s (sharedBy w b n k) (metRun w b (suc n) k s) (known (digit k (b (suc n)))) (met-shared n k s)
+
+  -- Of the bits of a narrower width they have the same in common.
+  module _ (v : ℕ) (narrower : v ≤ w) where
+    shared-narrow : (n k : ℕ) → whether (ltb k v) (sharedBy w b n k) unknown ≡ sharedBy v b n k
+    shared-narrow zero k = go (ltb k v) refl
+      where
+        go : (t : Bool) → ltb k v ≡ t → whether t (told w (b 0) k unknown) unknown ≡ whether t (known (digit k (b 0))) unknown
+        go true t = rw (lt-ltb k w (lt-of-lt-of-le (ltb-true k v t) narrower)) refl
+        go false t = refl
+    shared-narrow (suc n) k = go (ltb k v) refl (shared-narrow n k)
+      where
+        go : (t : Bool) → ltb k v ≡ t → whether t (sharedBy w b n k) unknown ≡ sharedBy v b n k
+            → whether t (join (sharedBy w b n k) (told w (b (suc n)) k unknown)) unknown ≡ join (sharedBy v b n k) (whether t (known (digit k (b (suc n)))) unknown)
+        go true t e = rw (lt-ltb k w (lt-of-lt-of-le (ltb-true k v t) narrower)) (ap (λ (x : Standing). join x (known (digit k (b (suc n))))) e)
+        go false t e = join-not (sharedBy v b n k) unknown (sym e)
+
+    pub shared-cut : (c d n : ℕ) → ((k : ℕ) → shown w c k ≡ sharedBy w b n k) → ((k : ℕ) → shown v d k ≡ whether (ltb k v) (shown w c k) unknown) → (k : ℕ) → shown v d k ≡ sharedBy v b n k
+    shared-cut c d n h g k = g k ∙ ap (λ (x : Standing). whether (ltb k v) x unknown) (h k) ∙ shared-narrow n k
 
   -- A code that says what the bytes have in common.
   module _ (c n : ℕ) (h : (k : ℕ) → shown w c k ≡ sharedBy w b n k) where

@@ -188,6 +188,15 @@ module _ (w wide : ℕ) (W : Wide w wide) where
       ap (λ (n : ℕ). shown w n k) (sym (or-zero-l (bitAnd x wide)) ∙ ap (λ (n : ℕ). putCode n 0 (bitAnd x wide)) (sym (and-zero-l wide)))
       ∙ mixed-shown 0 x k ∙ ap (whether (ltb k w) (shown w x k)) (none-shown w k)
 
+  -- A bit of the width says the same in a code of eight.
+  pub narrowed : (x k : ℕ) → shown w (bitAnd x wide) k ≡ whether (ltb k w) (shown 8 x k) unknown
+  unfolding shown
+  narrowed x k = cut-shown x k ∙ go (ltb k w) refl
+    where
+      go : (t : Bool) → ltb k w ≡ t → whether t (lit (whether t 0 3) (digit k (x % 256)) (digit k (x / 256))) unknown ≡ whether t (lit (past 8 k) (digit k (x % 256)) (digit k (x / 256))) unknown
+      go true t = rw (lt-ltb k 8 (lt-of-lt-of-le (ltb-true k w t) (W .byte))) refl
+      go false t = refl
+
   -- A code that has no bit past the width, put: cut to the width it is the same.
   put-shown : (a c : ℕ) → NonePast w c → (k : ℕ) → shown w (putCode wide a c) k ≡ whether (ltb k w) (shown w c k) (shown w a k)
   put-shown a c h k = ap (λ (n : ℕ). shown w (putCode wide a n) k) (one-code w c (bitAnd c wide) (λ j. go j (ltb j w) refl ∙ sym (cut-shown c j))) ∙ mixed-shown a c k

@@ -2,8 +2,10 @@
 ghost use mathlib.Core.Path.{_≡_};
 ghost use Prim.Native.Nat.{ℕ};
 ghost use lib.Dec.{eqb};
+ghost use lib.Dec.{ltb};
+ghost use Rattle.rules.specs.Choice.{whether};
 ghost use Rattle.rules.specs.Tests.{Tests};
-ghost use Rattle.knowing.specs.Standing.{Within};
+ghost use Rattle.knowing.specs.Standing.{unknown, Within};
 ghost use Rattle.knowing.specs.Know.{join};
 ghost use Rattle.knowing.specs.Holds.{holds};
 ghost use Rattle.lamps.specs.View.{shown, Wide, told, OfByte, Puts, Meets};
@@ -54,6 +56,13 @@ pub fn meet_code(wide: u16, code: u16, c: u16) -> u16
     let d = code ^ c;
     let e = d | (d << 8) | (d >> 8);
     (code ^ (code & wide)) | (c ^ (c & e))
+}
+
+// A code of eight bits, of which only those of a width are left.
+pub fn cut(wide: u16, code: u16) -> u16
+    ensures { λ r. ⌜ ((w : ℕ) → Wide w wide → (k : ℕ) → shown w r k ≡ whether (ltb k w) (shown 8 code k) unknown) ⌝ }
+{
+    code & wide
 }
 
 // The bits of a code that number 2 rules out: those past the width, and the values where there is no mark. It is a number, so that those of a whole row can

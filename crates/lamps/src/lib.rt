@@ -9,6 +9,7 @@ pub use code::SEVEN;
 pub use code::TWO;
 pub use code::both_lamps;
 pub use code::code_of;
+pub use code::cut;
 pub use code::holds;
 pub use code::lamps_sound;
 pub use code::meet_code;

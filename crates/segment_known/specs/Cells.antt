@@ -10,7 +10,7 @@ use Rattle.rules.specs.Choice.{whether}
 use Rattle.rules.specs.Rule.{value, copy, look}
 use Rattle.rules.specs.Change.{keep, change}
 use Rattle.knowing.specs.Standing as Of
-use Rattle.knowing.specs.Know.{lifted, common}
+use Rattle.knowing.specs.Know.{lifted, common, know}
 use Rattle.knowing.specs.Look.{look-unknown}
 use Rattle.segment.specs.declared.chip.Sizes.{Sizes}
 use Rattle.segment.specs.declared.chip.Family.{Family}
@@ -18,12 +18,10 @@ use Rattle.segment.specs.Family.{sizes}
 use Rattle.segment.specs.Fact.{Fact, same?, range, cell, address, dataMode, stepping, mode, dimming, display, led, key, switches, readCount, position}
 use Rattle.segment.specs.Laws.{every, room, keys-apart}
 use Rattle.segment.specs.Move.{sets, stored, keysLatched}
-use Rattle.knowing.specs.Ways as Ways
 use Rattle.segment_knowledge.specs.declared.control.Control.{Control}
 use Rattle.changes.specs.declared.change.Change.the-variants.{Meet}
 use Rattle.changes.specs.Change.{seen}
 use Rattle.changes.specs.Together.{met-or-not}
-use Rattle.segment_steps.specs.declared.steps.Step.{Step}
 use Rattle.segment_steps.specs.Step.{sview, Steps}
 use Rattle.key_codes.specs.View.{coded}
 use Rattle.segment_knowledge.specs.View.{points, cview}
@@ -41,32 +39,43 @@ fourth-set v false l b j small h e = go (same? (key j) (key 3))
     go (yes p) = e j ∙ ap v p
     go (no n) = e j
 
+-- What is left of a knowledge where a byte may have gone to any cell: each cell has in common with it what it had, and all else stays.
+abbrev pub roams : Sizes → ℕ → (Fact → Of.Standing) → Fact → Of.Standing
+roams s b v (cell i k) = seen 8 (Meet (record { 0 = 0 }) 1 (s .cells) b) i k (v (cell i k))
+roams s b v address = v address
+roams s b v dataMode = v dataMode
+roams s b v stepping = v stepping
+roams s b v mode = v mode
+roams s b v dimming = v dimming
+roams s b v display = v display
+roams s b v (led k) = v (led k)
+roams s b v (key i) = v (key i)
+roams s b v switches = v switches
+roams s b v readCount = v readCount
+roams s b v position = v position
+
 -- The whole of a byte stored at an unknown address.
-pub somewhere : (s : Sizes) (c : Control) (b : ℕ) → 0 < s .cells → points (c .address) ≡ Of.unknown → (cells : ℕ → ℕ → Of.Standing)
-    → Ways.Knows (cview cells) (sview cells) same? (range s) (look address (stored s b)) c (record { control = c; change = Meet (record { 0 = 0 }) 1 (s .cells) b })
+pub somewhere : (s : Sizes) (b : ℕ) (v : Fact → Of.Standing) → 0 < s .cells → v address ≡ Of.unknown → (f : Fact) → roams s b v f ≡ know same? (range s) (look address (stored s b)) v f
 unfolding tag
-somewhere s c b some u cells f =
-    look-unknown same? (range s) address (stored s b) (cview cells c) f _ u
-    (every (λ (f : Fact). sview cells r f ≡ common (suc (s .cells)) (ways s b (cview cells c) f))
+somewhere s b v some u f =
+    look-unknown same? (range s) address (stored s b) v f _ u
+    (every (λ (f : Fact). roams s b v f ≡ common (suc (s .cells)) (ways s b v f))
     at
-    (u ∙ address-lost s b (cview cells c) some)
+    (u ∙ address-lost s b v some)
     (plain dataMode (omega arith)) (plain stepping (omega arith)) (plain mode (omega arith)) (plain dimming (omega arith)) (plain display (omega arith)) (λ k. plain (led k) (omega arith))
     (λ i. plain (key i) (omega arith)) (plain switches (omega arith)) (plain readCount (omega arith)) (plain position (omega arith)) f)
   where
-    r : Step
-    r = record { control = c; change = Meet (record { 0 = 0 }) 1 (s .cells) b }
+    plain : (f : Fact) → 2 ≤ tag f → v f ≡ common (suc (s .cells)) (ways s b v f)
+    plain f h = plain-stay s b v f h
 
-    plain : (f : Fact) → 2 ≤ tag f → cview cells c f ≡ common (suc (s .cells)) (ways s b (cview cells c) f)
-    plain f h = plain-stay s b (cview cells c) f h
-
-    at : (i k : ℕ) → seen 8 (Meet (record { 0 = 0 }) 1 (s .cells) b) i k (cells i k) ≡ common (suc (s .cells)) (ways s b (cview cells c) (cell i k))
+    at : (i k : ℕ) → seen 8 (Meet (record { 0 = 0 }) 1 (s .cells) b) i k (v (cell i k)) ≡ common (suc (s .cells)) (ways s b v (cell i k))
     at i k =
-        met-or-not 8 0 1 (s .cells) b i k (cells i k) _ (λ j h p l. cell-common s b (cview cells c) i k (omega arith) l)
-        (λ n. bit-stay s b (cview cells c) i k (λ j h l e. n j h l (omega arith)))
+        met-or-not 8 0 1 (s .cells) b i k (v (cell i k)) _ (λ j h p l. cell-common s b v i k (omega arith) l)
+        (λ n. bit-stay s b v i k (λ j h l e. n j h l (omega arith)))
 
 pub somewhere-steps : (p : Family) (c : Control) (b : ℕ) → points (c .address) ≡ Of.unknown
     → Steps (sizes p) (look address (stored (sizes p) b)) c (record { control = c; change = Meet (record { 0 = 0 }) 1 (sizes p .cells) b })
-somewhere-steps p c b u = record { knows = λ cells. somewhere (sizes p) c b (proper p .some) u cells; inside = (omega arith, λ j h. omega (arith, room p .0)) }
+somewhere-steps p c b u = record { knows = λ cells f. every (λ (f : Fact). sview cells (record { control = c; change = Meet (record { 0 = 0 }) 1 (sizes p .cells) b }) f ≡ roams (sizes p) b (cview cells c) f) (λ i k. refl) refl refl refl refl refl refl (λ k. refl) (λ i. refl) refl refl refl f ∙ somewhere (sizes p) b (cview cells c) (proper p .some) u f; inside = (omega arith, λ j h. omega (arith, room p .0)) }
 
 -- The key bytes after they are latched.
 pub keys-coded : (s : Sizes) (cells : ℕ → ℕ → Of.Standing) (c : Control) (k0 k1 k2 k3 : ℕ) (rest new : List ℕ) (i : ℕ) → k0 < 256 → k1 < 256 → k2 < 256 → k3 < 256

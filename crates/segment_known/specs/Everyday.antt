@@ -14,7 +14,7 @@ use Rattle.knowing.specs.Join.{join-itself, join-other, join-not}
 use Rattle.knowing.specs.Lost.{look-lost, know-leaves}
 use Rattle.rules.specs.Touch.{Leaves}
 use Rattle.standing.specs.View.{stands}
-use Rattle.lamps.specs.View.{shown, met}
+use Rattle.lamps.specs.View.{shown, met, OfByte, Meets}
 use Rattle.changes.specs.declared.change.Change.{Change}
 use Rattle.changes.specs.declared.change.Change.the-variants.{Keep, Put, Meet}
 use Rattle.changes.specs.Change.{among, seen, storedRun, metRun}
@@ -39,7 +39,7 @@ use Rattle.segment_knowledge.specs.View.{points, cview}
 use Rattle.segment_known.specs.declared.everyday.Target.{Target}
 use Rattle.segment_known.specs.declared.everyday.Target.the-variants.{Cell, Anywhere, Perhaps, PerhapsCell, PerhapsLed, Nowhere, Led, Elsewhere}
 use Rattle.segment_known.specs.Cells.{somewhere-steps}
-use Rattle.segment_known.specs.Writes.{writing, pointing, pointed, steppedOn, moves-on, stored-in, stored-nowhere, perhaps-written}
+use Rattle.segment_known.specs.Writes.{writing, pointing, steppedOn, moves-on, stored-in, stored-nowhere, perhaps-written, met-led}
 use Rattle.segment_known.specs.Ways.{other-in, other-written}
 use Rattle.segment_steps.specs.Step.{Steps, Keeps, keptOf}
 use Rattle.segment_steps.specs.StepLaws.{as-steps, kept-steps}
@@ -107,7 +107,7 @@ PerhapsAt s at Led = ⊥
 PerhapsAt s at Elsewhere = Unit
 
 -- A byte while the strobe is open goes by the data mode.
-pub data-step : (p : Family) (c : Control) (b : ℕ) {at : Pointing} {light : ℕ} {x : Change} → stands (c .position) ≡ known (at-position Open)
+data-step : (p : Family) (c : Control) (b : ℕ) {at : Pointing} {light : ℕ} {x : Change} → stands (c .position) ≡ known (at-position Open)
     → Steps (sizes p) (look dataMode (written (sizes p) b)) c (record { control = writing c at light; change = x })
     → Steps (sizes p) (move (sizes p) (ByteIn b)) c (record { control = writing c at light; change = x })
 data-step p c b o h = step-known (sizes p) position (byteIn (sizes p) b) c 2 (λ cells. o) h
@@ -118,27 +118,18 @@ lights-in p c r b h k =
     step-known (sizes p) position (byteIn (sizes p) b) c 2 (λ cells. h .opened)
     (step-known (sizes p) dataMode (written (sizes p) b) c 1 (λ cells. h .writing) (kept-steps refl k))
 
--- The LED where the byte may have gone there.
-pub record PerhapsLit (b : ℕ) (c r : Control) : Type 0 where
+-- The LED where what a code says may have gone there.
+pub record PerhapsLit (code : ℕ) (c r : Control) : Type 0 where
   pub others : r ≡ writing c (c .address) (r .led)
-  pub lit : (k : ℕ) → shown 4 (r .led) k ≡ met 4 b k (shown 4 (c .led) k)
-
--- The byte may have gone to any cell, to the LED or nowhere.
-pub drifts : (p : Family) (c r : Control) (b : ℕ) → Drifting c unknown → PerhapsLit b c r
-    → Steps (sizes p) (move (sizes p) (ByteIn b)) c (record { control = r; change = Meet (record { 0 = 0 }) 1 (sizes p .cells) b })
-drifts p c r b h l =
-    subst⁻¹ (λ (x : Control). Steps (sizes p) (move (sizes p) (ByteIn b)) c (record { control = x; change = Meet (record { 0 = 0 }) 1 (sizes p .cells) b })) (l .others)
-    (data-step p c b (h .opened)
-    (perhaps-written p c b (record { address = c .address; change = Meet (record { 0 = 0 }) 1 (sizes p .cells) b }) (c .address) (r .led)
-    (λ d e i. pointed (sym e) (somewhere-steps p d b (e ∙ h .address))) (h .writing) (sym (join-itself (points (c .address)))) (l .lit)))
+  pub lit : Meets 3855 code (c .led) (r .led)
 
 -- The address is invalid: the byte may have gone to the LED.
-pub drifts-lit : (p : Family) (c r : Control) (b : ℕ) → Drifting c (known 0) → PerhapsLit b c r → Steps (sizes p) (move (sizes p) (ByteIn b)) c (keptOf r)
-drifts-lit p c r b h l =
+pub drifts-lit : (p : Family) (c r : Control) (b code : ℕ) → Drifting c (known 0) → OfByte 4 b code → PerhapsLit code c r → Steps (sizes p) (move (sizes p) (ByteIn b)) c (keptOf r)
+drifts-lit p c r b code h o l =
     subst⁻¹ (λ (x : Control). Steps (sizes p) (move (sizes p) (ByteIn b)) c (keptOf x)) (l .others)
     (data-step p c b (h .opened)
     (perhaps-written p c b (record { address = c .address; change = Keep }) (c .address) (r .led)
-    (λ d e i. stored-nowhere (sizes p) d b 0 (c .address) e (h .address) refl) (h .writing) (sym (join-itself (points (c .address)))) (l .lit)))
+    (λ d e i. stored-nowhere (sizes p) d b 0 (c .address) e (h .address) refl) (h .writing) (sym (join-itself (points (c .address)))) (met-led b code (c .led) (r .led) o (l .lit))))
 
 -- The address where it was that of cell i, and the byte may have gone there.
 abbrev pub perhapsOn : ℕ → Standing → Standing
@@ -155,9 +146,9 @@ pub record PerhapsStepped (i : ℕ) (c r : Control) : Type 0 where
   pub address : points (r .address) ≡ perhapsOn i (stands (c .stepping))
 
 -- The byte may have gone to that cell, to the LED or nowhere.
-pub drifts-at : (p : Family) (c l r : Control) (b : ℕ) (to : Address) → Drifting c (known (suc (to .0))) → to .0 < sizes p .cells → PerhapsLit b c l → PerhapsStepped (to .0) l r
+pub drifts-at : (p : Family) (c l r : Control) (b code : ℕ) (to : Address) → Drifting c (known (suc (to .0))) → to .0 < sizes p .cells → OfByte 4 b code → PerhapsLit code c l → PerhapsStepped (to .0) l r
     → Steps (sizes p) (move (sizes p) (ByteIn b)) c (record { control = r; change = Meet to 1 1 b })
-drifts-at p c l r b to h inside lit step =
+drifts-at p c l r b code to h inside o lit step =
     subst⁻¹ (λ (x : Control). Steps (sizes p) (move (sizes p) (ByteIn b)) c (record { control = x; change = Meet to 1 1 b })) (step .others ∙ ap (λ (x : Control). pointing x (r .address)) (lit .others))
     (data-step p c b (h .opened) (go (stands (c .stepping)) refl (step .address ∙ ap (λ (x : Control). perhapsOn (to .0) (stands (x .stepping))) (lit .others))))
   where
@@ -168,7 +159,7 @@ drifts-at p c l r b to h inside lit step =
         → Steps s (look dataMode (written s b)) c (record { control = writing c (r .address) (l .led); change = Meet to 1 1 b })
     through next e j =
         perhaps-written p c b (record { address = next; change = Put to b }) (r .address) (l .led)
-        (λ d a i. stored-in p d to b next inside (a ∙ h .address) (e ∙ ap (steppedOn s (to .0)) (sym i))) (h .writing) j (lit .lit)
+        (λ d a i. stored-in p d to b next inside (a ∙ h .address) (e ∙ ap (steppedOn s (to .0)) (sym i))) (h .writing) j (met-led b code (c .led) (l .led) o (lit .lit))
 
     go : (t : Standing) → stands (c .stepping) ≡ t → points (r .address) ≡ perhapsOn (to .0) (stands (c .stepping)) → Steps s (look dataMode (written s b)) c (record { control = writing c (r .address) (l .led); change = Meet to 1 1 b })
     go (known zero) u a =

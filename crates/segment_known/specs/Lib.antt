@@ -4,3 +4,4 @@ pub mod Cells
 pub mod Moved
 pub mod Writes
 pub mod Everyday
+pub mod Drift

@@ -100,7 +100,7 @@ unfolding sizes
 several Pt6312 = omega arith
 several Pt6315 = omega arith
 
-several-modes : (p : Family) → 3 ≤ range (sizes p) dataMode
+pub several-modes : (p : Family) → 3 ≤ range (sizes p) dataMode
 unfolding sizes
 several-modes Pt6312 = omega arith
 several-modes Pt6315 = omega arith

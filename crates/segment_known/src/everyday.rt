@@ -2,7 +2,6 @@
 use changes::meet_run;
 use lamps::EIGHT;
 use lamps::FOUR;
-use lamps::code_of;
 use lamps::meet_code;
 use lamps::put_byte;
 use segment::Family;
@@ -177,12 +176,12 @@ pub fn lit(c: Control, byte: u8) -> Control
     Control { led, ..c }
 }
 
-// The byte may have gone to the LED.
-pub fn perhaps_lit(c: Control, byte: u8) -> Control
-    ensures { λ r. ⌜ PerhapsLit byte c r ⌝ }
+// What the code says may have gone to the LED.
+pub fn perhaps_lit(c: Control, code: u16) -> Control
+    ensures { λ r. ⌜ PerhapsLit code c r ⌝ }
 {
     let old = c.led;
-    let led = meet_code(FOUR, old, code_of(FOUR, byte));
+    let led = meet_code(FOUR, old, code);
     Control { led, ..c }
 }
 

@@ -4,16 +4,16 @@ use native.Mathlib.Omega.{arith}
 use mathlib.Core.Path.{_≡_, refl, sym, ap, _∙_, subst, subst⁻¹}
 use mathlib.Core.Bool.{Bool, true, false}
 use mathlib.Core.List.{List}
+use lib.Dec.{ltb}
 use lib.ListN.{length, getD, drop}
 use Rattle.rules.specs.Choice.{whether}
-use Rattle.terms.specs.declared.Address.{Address}
 use Rattle.terms.specs.declared.Event.{Event}
 use Rattle.terms.specs.declared.Event.the-variants.{Falls, ByteIn, Rises, Gap}
 use Rattle.terms.specs.declared.Part.{Part}
 use Rattle.knowing.specs.Standing.{Standing, known, unknown}
 use Rattle.knowing.specs.Know.{know}
 use Rattle.standing.specs.View.{stands}
-use Rattle.lamps.specs.Lamp.{wide8}
+use Rattle.lamps.specs.Lamp.{wide8, wide4}
 use Rattle.recording.specs.Record.{front}
 use Rattle.recording.specs.Steps.{rest}
 use Rattle.recording.specs.Walk.{walked}
@@ -21,8 +21,7 @@ use Rattle.recording.specs.declared.read.Read.the-variants.{Is}
 use Rattle.one_record.specs.Glance.{InByte}
 use Rattle.lamps.specs.View.{shown}
 use Rattle.changes.specs.Change.{among, Changes, Met, metRun, sharedBy}
-use Rattle.changes.specs.declared.change.Change.the-variants.{Meet}
-use Rattle.changes.specs.Run.{shared-none-past, shared-met-code, met-none}
+use Rattle.changes.specs.Run.{shared-none-past, shared-met-code, shared-cut, met-none}
 use Rattle.walks.specs.Kept.{Kept, kept-read, kept-same}
 use Rattle.walks.specs.Reads.{falls-there, byte-there, rises-there, gap-there}
 use Rattle.walks.specs.Run.{Run, byteOf, kept-run}
@@ -32,7 +31,7 @@ use Rattle.segment.specs.declared.chip.Sizes.{Sizes}
 use Rattle.segment.specs.declared.chip.Family.{Family}
 use Rattle.segment.specs.declared.command.Command.{Command}
 use Rattle.segment.specs.Command.{commandOf}
-use Rattle.segment.specs.Fact.{Fact, same?, range, address, dataMode, stepping, mode, dimming, display, led, key, switches, readCount, position}
+use Rattle.segment.specs.Fact.{Fact, same?, range, cell, address, dataMode, stepping, mode, dimming, display, led, key, switches, readCount, position}
 use Rattle.segment.specs.Family.{sizes}
 use Rattle.segment.specs.Laws.{every}
 use Rattle.segment.specs.Move.{commanded, byteIn, move}
@@ -43,9 +42,10 @@ use Rattle.segment_steps.specs.declared.steps.Step.{Step}
 use Rattle.segment_steps.specs.Step.{Steps, Keeps, Forgets, keptOf, forgottenOf}
 use Rattle.segment_steps.specs.StepLaws.{as-steps, kept-steps, forgotten-steps}
 use Rattle.segment_steps.specs.StepWays.{step-known}
-use Rattle.segment_known.specs.Everyday.{Counting, Roaming, ring, counted-known, counted-first, counted-each, roamed-known, roamed-first, roamed-each}
+use Rattle.segment_known.specs.Everyday.{Counting, Roaming, Drifting, PerhapsLit, ring, counted-known, counted-first, counted-each, roamed-known, roamed-first, roamed-each}
 use Rattle.segment_known.specs.Moved.{step-done}
-use Rattle.segment_known.specs.Writes.{pointing}
+use Rattle.segment_known.specs.Drift.{drifted, drifted-each, drifted-ends}
+use Rattle.segment_known.specs.Writes.{writing, pointing}
 
 -- A command does what the byte says that it is.
 module _ (p : Family) (b : ℕ) (begun r : Control) (is says : Command) (e : is ≡ commandOf (sizes p) b) (f : is ≡ says) where
@@ -58,14 +58,6 @@ module _ (p : Family) (b : ℕ) (begun r : Control) (is says : Command) (e : is 
 -- A byte in, as a record of the part.
 pub byte-is : (part : Part) (l : List ℕ) (i b : ℕ) → InByte l i b → front part (drop i l) ≡ Is (ByteIn b) 2
 byte-is part l i b h = byte-there part l i (h .kind) (h .there) ∙ ap (λ (v : ℕ). Is (ByteIn v) 2) (sym (h .byte))
-
--- Cells of which nothing is known meet a byte and stay.
-pub unmet : (cells : List ℕ) (from : Address) (by n b : ℕ) → ((j k : ℕ) → held cells j k ≡ unknown) → Changes 8 (Meet from by n b) cells cells
-unmet cells from by n b none j k = sym (either (among (from .0) by n j) (held cells j k) (met-none 8 (λ v. b) 1 k (held cells j k) (none j k) ∙ sym (none j k)))
-  where
-    either : (t : Bool) (s : Standing) {x : Standing} → x ≡ s → whether t x s ≡ s
-    either true s e = e
-    either false s e = refl
 
 module _ (part : Part) (p : Family) (l : List ℕ) (first : Knowledge) where
   -- The walk stands at place i, with the knowledge k, and the cells are as many as they were.
@@ -142,31 +134,52 @@ module _ (part : Part) (p : Family) (l : List ℕ) (first : Knowledge) where
       (puts .stored 8 wide8) refl refl refl refl refl refl (λ k. refl) (λ j. refl) refl refl refl f))
       (counted-each p c to n (byteOf l i) (held old) counting (puts .room)) h
 
-  -- A run of which each byte may have gone to any cell.
-  pub meets-all : (i n code : ℕ) (old new : List ℕ) (c : Control) → Roaming c → Shares 65535 l i n code → Met 65535 code old 0 1 (sizes p .cells) new → Here i old c → Here (i + 2 * n) new c
-  meets-all i n code old new c roaming shares met h =
-      ran i n old new c c (roamed-known p c (byteOf l i) (held old) roaming) (shares .run) (met .size ∙ h .size) (roamed-first p c (byteOf l i) (held old) roaming)
-      (every (λ (f : Fact). roamed-known p c (byteOf l i) (held old) roaming n f ≡ kview (record { cells = new; control = c }) f) cell refl refl refl refl refl refl (λ k. refl) (λ j. refl) refl refl refl)
-      (λ j o. roamed-each p c (byteOf l i) (held old) roaming j) h
-    where
-      common : (k : ℕ) → shown 8 code k ≡ sharedBy 8 (byteOf l i) (shares .others) k
-      common = shares .common 8 wide8
+  -- The cells where each byte of a run may have gone to any of them.
+  abbrev Together : ℕ → ℕ → List ℕ → List ℕ → Type 0
+  Together i n old new = (j k : ℕ) → whether (among 0 1 (sizes p .cells) j) (metRun 8 (byteOf l i) n k (held old j k)) (held old j k) ≡ held new j k
 
-      cell : (j k : ℕ) → whether (among 0 1 (sizes p .cells) j) (metRun 8 (byteOf l i) n k (held old j k)) (held old j k) ≡ held new j k
-      cell j k =
-          sym (met .shows 8 wide8 (shared-none-past 8 (byteOf l i) code (shares .others) common) j k
-          ∙ ap (λ (s : Standing). whether (among 0 1 (sizes p .cells) j) s (held old j k)) (shared-met-code 8 (byteOf l i) code (shares .others) common k (held old j k) ∙ ap (λ (m : ℕ). metRun 8 (byteOf l i) m k (held old j k)) (sym (shares .counted))))
+  -- They meet what the bytes have in common.
+  pub met-together : (i n code : ℕ) (old new : List ℕ) → Shares 65535 l i n code → Met 65535 code old 0 1 (sizes p .cells) new → Together i n old new
+  met-together i n code old new shares met j k =
+      sym (met .shows 8 wide8 (shared-none-past 8 (byteOf l i) code (shares .others) (shares .common 8 wide8)) j k
+      ∙ ap (λ (s : Standing). whether (among 0 1 (sizes p .cells) j) s (held old j k)) (shared-met-code 8 (byteOf l i) code (shares .others) (shares .common 8 wide8) k (held old j k) ∙ ap (λ (m : ℕ). metRun 8 (byteOf l i) m k (held old j k)) (sym (shares .counted))))
 
-  -- The same where nothing is known of the cells.
-  pub meets-none : (i n : ℕ) (cells : List ℕ) (c : Control) → Roaming c → Run l i n → ((j k : ℕ) → held cells j k ≡ unknown) → Here i cells c → Here (i + 2 * n) cells c
-  meets-none i n cells c roaming run none h =
-      ran i n cells cells c c (roamed-known p c (byteOf l i) (held cells) roaming) run (h .size) (roamed-first p c (byteOf l i) (held cells) roaming)
-      (every (λ (f : Fact). roamed-known p c (byteOf l i) (held cells) roaming n f ≡ kview (record { cells = cells; control = c }) f) cell refl refl refl refl refl refl (λ k. refl) (λ j. refl) refl refl refl)
-      (λ j o. roamed-each p c (byteOf l i) (held cells) roaming j) h
+  -- Or nothing is known of them, and they stay.
+  pub none-together : (i n : ℕ) (cells : List ℕ) → ((j k : ℕ) → held cells j k ≡ unknown) → Together i n cells cells
+  none-together i n cells none j k = either (among 0 1 (sizes p .cells) j) _ _ (met-none 8 (byteOf l i) n k (held cells j k) (none j k) ∙ sym (none j k))
     where
       either : (t : Bool) (x y : Standing) → x ≡ y → whether t x y ≡ y
       either true x y e = e
       either false x y e = refl
 
-      cell : (j k : ℕ) → whether (among 0 1 (sizes p .cells) j) (metRun 8 (byteOf l i) n k (held cells j k)) (held cells j k) ≡ held cells j k
-      cell j k = either (among 0 1 (sizes p .cells) j) _ _ (met-none 8 (byteOf l i) n k (held cells j k) (none j k) ∙ sym (none j k))
+  -- A run of which each byte may have gone to any cell.
+  pub roam : (i n : ℕ) (old new : List ℕ) (c : Control) → Roaming c → Run l i n → length new ≡ 36 → Together i n old new → Here i old c → Here (i + 2 * n) new c
+  roam i n old new c roaming run size cells h =
+      ran i n old new c c (roamed-known p c (byteOf l i) (held old) roaming) run size (roamed-first p c (byteOf l i) (held old) roaming)
+      (every (λ (f : Fact). roamed-known p c (byteOf l i) (held old) roaming n f ≡ kview (record { cells = new; control = c }) f) cells refl refl refl refl refl refl (λ k. refl) (λ j. refl) refl refl refl)
+      (λ j o. roamed-each p c (byteOf l i) (held old) roaming j) h
+
+  -- A run of which each byte may have gone to any cell, or to the LED, or nowhere.
+  pub drift-on : (i n code low : ℕ) (old new : List ℕ) (c r : Control) → Drifting c unknown → Shares 65535 l i n code → ((k : ℕ) → shown 4 low k ≡ whether (ltb k 4) (shown 8 code k) unknown) → PerhapsLit low c r
+      → length new ≡ 36 → Together i n old new → Here i old c → Here (i + 2 * n) new r
+  drift-on i n code low old new c r d shares cut lit size cells h =
+      ran i n old new c r (drifted (sizes p) (byteOf l i) (kview start)) (shares .run) size (λ f. refl)
+      (λ f. ends f ∙ sym (ap (λ (x : Control). cview (held new) x f) (lit .others)))
+      (λ j o. drifted-each p (byteOf l i) (kview start) (record { opened = d .opened; writing = d .writing; pointed = d .address }) j) h
+    where
+      start : Knowledge
+      start = record { cells = old; control = c }
+
+      common : (k : ℕ) → shown 4 low k ≡ sharedBy 4 (byteOf l i) (shares .others) k
+      common = shared-cut 8 (byteOf l i) 4 (omega arith) code low (shares .others) (shares .common 8 wide8) cut
+
+      light : (k : ℕ) → metRun 4 (byteOf l i) n k (shown 4 (c .led) k) ≡ shown 4 (r .led) k
+      light k =
+          sym (lit .lit 4 wide4 (shared-none-past 4 (byteOf l i) low (shares .others) common) k
+          ∙ shared-met-code 4 (byteOf l i) low (shares .others) common k (shown 4 (c .led) k) ∙ ap (λ (m : ℕ). metRun 4 (byteOf l i) m k (shown 4 (c .led) k)) (sym (shares .counted)))
+
+      ends : (f : Fact) → drifted (sizes p) (byteOf l i) (kview start) n f ≡ cview (held new) (writing c (c .address) (r .led)) f
+      ends =
+          let e = drifted-ends (sizes p) (byteOf l i) (kview start) n in
+          every (λ (f : Fact). drifted (sizes p) (byteOf l i) (kview start) n f ≡ cview (held new) (writing c (c .address) (r .led)) f)
+          (λ j k. e (cell j k) ∙ cells j k) (e address) (e dataMode) (e stepping) (e mode) (e dimming) (e display) (λ k. e (led k) ∙ light k) (λ j. e (key j)) (e switches) (e readCount) (e position)

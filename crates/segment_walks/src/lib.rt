@@ -5,7 +5,9 @@ use byte_runs::shared;
 use changes::forget;
 use changes::meet_one;
 use lamps::EIGHT;
+use lamps::FOUR;
 use lamps::code_of;
+use lamps::cut;
 use lamps::none_known;
 use one_record::Everyday;
 use one_record::everyday_at;
@@ -122,11 +124,12 @@ fn walk(part: Part, family: Family, first: [u16; 36], was: Control, bytes: &[u8]
                         }
                     }
                     Target::Perhaps => {
-                        control = perhaps_lit(control, byte);
+                        let common = shared(EIGHT, bytes, Place(i));
+                        control = perhaps_lit(control, cut(FOUR, common.code));
                         if !none_known(&cells) {
-                            meets(family, &mut cells, code_of(EIGHT, byte));
+                            meets(family, &mut cells, common.code);
                         }
-                        i += 2;
+                        i += 2 * common.count;
                     }
                     Target::Nowhere => i += 2 * passed(bytes, Place(i)),
                     Target::Led => {
@@ -134,12 +137,12 @@ fn walk(part: Part, family: Family, first: [u16; 36], was: Control, bytes: &[u8]
                         i += 2;
                     }
                     Target::PerhapsCell(cell) => {
-                        control = perhaps_stepped(perhaps_lit(control, byte), cell);
+                        control = perhaps_stepped(perhaps_lit(control, code_of(FOUR, byte)), cell);
                         meet_one(&mut cells, EIGHT, cell, byte);
                         i += 2;
                     }
                     Target::PerhapsLed => {
-                        control = perhaps_lit(control, byte);
+                        control = perhaps_lit(control, code_of(FOUR, byte));
                         i += 2;
                     }
                     Target::Elsewhere => {

@@ -23,9 +23,8 @@ use mathlib.Core.Bool.{Bool, true, false, not, true≢false}
 use mathlib.Core.List.{List}
 use mathlib.Core.Logic.{⊎-elim}
 use Rattle.terms.specs.declared.Event.the-variants.{ByteIn}
-use Rattle.lamps.specs.Lamp.{wide8}
+use Rattle.lamps.specs.Lamp.{wide8, wide4}
 use Rattle.changes.specs.Change.{Changes}
-use Rattle.changes.specs.Together.{met-byte}
 use Rattle.byte_runs.specs.Putting.{PutsRun}
 use Rattle.segment.specs.Laws.{room}
 use Rattle.changes.specs.declared.change.Change.the-variants.{Meet}
@@ -37,9 +36,9 @@ use Rattle.segment_knowledge.specs.View.{held}
 use Rattle.segment_steps.specs.declared.steps.Step.{Step}
 use Rattle.segment_steps.specs.Step.{Steps, keptOf, forgottenOf}
 use Rattle.segment_known.specs.declared.everyday.Target.{Target}
-use Rattle.segment_known.specs.Everyday.{Hits, lights-in, drifts, drifts-lit, drifts-at, lost-deaf}
+use Rattle.segment_known.specs.Everyday.{Hits, lights-in, drifts-lit, drifts-at, lost-deaf}
 use Rattle.segment_known.specs.Ways.{mode-small}
-use Rattle.segment_walks.specs.Arms.{Here, here-as, takes, fell, rose, lost, took, ordered, sets-by, tests-by, byte-is, unmet, passes, stores, meets-all, meets-none}
+use Rattle.segment_walks.specs.Arms.{Here, here-as, takes, fell, rose, lost, took, ordered, sets-by, tests-by, byte-is, passes, stores, met-together, none-together, roam, drift-on}
 use Rattle.segment_walks.proofs.walk.Statement.{statement}
 use Rattle.segment_walks.proofs.walk.Tie as tie
 
@@ -261,7 +260,7 @@ loop-again-5 : tie.Need-loop-again-5 Inv-loop μ-loop
 loop-again-5 c = let a = c .before .before .before .before .before .before .before .before .before .before .before .before .before .before .before .args in
     let at = c .before .before .before .before .before .before .before .before .before .before .before .before .loop in
     let first : Knowledge = record { cells = a .first; control = a .was } in
-    (c .passed .ensures .1 .fits, meets-none (a .part) (a .family) (a .bytes .now) first (at .i) _ (at .cells) (at .control) (hit (sizesOf (a .family)) (at .control) (c .before .before .before .before .enum-told4 .given .1) (c .before .before .before .before .before .before .goes-to .ensures)) (c .passed .ensures .1) (λ j k. c .before .before .none-known .ensures (c .before .if1 .taken) 8 j k) (at .inv .1))
+    (c .passed .ensures .1 .fits, roam (a .part) (a .family) (a .bytes .now) first (at .i) _ (at .cells) (at .cells) (at .control) (hit (sizesOf (a .family)) (at .control) (c .before .before .before .before .enum-told4 .given .1) (c .before .before .before .before .before .before .goes-to .ensures)) (c .passed .ensures .1) (at .inv .1 .size) (none-together (a .part) (a .family) (a .bytes .now) first (at .i) (c .passed .result) (at .cells) (λ j k. c .before .before .none-known .ensures (c .before .if1 .taken) 8 j k)) (at .inv .1))
 
 shared-requires : tie.Need-shared-requires Inv-loop μ-loop
 shared-requires c κs = let a = c .before .before .before .before .before .before .before .before .before .before .before .before .before .before .args in
@@ -288,10 +287,19 @@ loop-again-6 : tie.Need-loop-again-6 Inv-loop μ-loop
 loop-again-6 c = let a = c .before .before .before .before .before .before .before .before .before .before .before .before .before .before .before .before .before .before .before .args in
     let at = c .before .before .before .before .before .before .before .before .before .before .before .before .before .before .before .before .loop in
     let first : Knowledge = record { cells = a .first; control = a .was } in
-    ((c .before .before .before .before .shared .ensures) .run .fits, meets-all (a .part) (a .family) (a .bytes .now) first (at .i) _ _ (at .cells) _ (at .control) (hit (sizesOf (a .family)) (at .control) (c .before .before .before .before .before .before .before .before .enum-told4 .given .1) (c .before .before .before .before .before .before .before .before .before .before .goes-to .ensures)) (c .before .before .before .before .shared .ensures) (c .before .before .meets .ensures) (at .inv .1))
+    ((c .before .before .before .before .shared .ensures) .run .fits, roam (a .part) (a .family) (a .bytes .now) first (at .i) _ (at .cells) _ (at .control) (hit (sizesOf (a .family)) (at .control) (c .before .before .before .before .before .before .before .before .enum-told4 .given .1) (c .before .before .before .before .before .before .before .before .before .before .goes-to .ensures)) ((c .before .before .before .before .shared .ensures) .run) (c .before .before .meets .ensures .size ∙ at .inv .1 .size) (met-together (a .part) (a .family) (a .bytes .now) first (at .i) _ _ (at .cells) _ (c .before .before .before .before .shared .ensures) (c .before .before .meets .ensures)) (at .inv .1))
 
 enum-told-5 : tie.Need-enum-told-5 Inv-loop μ-loop
 enum-told-5 c = search needs
+
+shared-requires-2 : tie.Need-shared-requires-2 Inv-loop μ-loop
+shared-requires-2 c κs = let a = c .before .before .before .before .before .before .before .before .before .before .before .args in
+    let at = c .before .before .before .before .before .before .before .before .loop in
+    let b = shown-as (a .bytes .now) (at .i) (c .before .before .before .before .record2 .given .1) (c .before .before .before .before .before .before .everyday-at .ensures) in
+    (b .there, b .kind)
+
+cut-requires : tie.Need-cut-requires Inv-loop μ-loop
+cut-requires c κs = search needs
 
 perhaps-lit-requires : tie.Need-perhaps-lit-requires Inv-loop μ-loop
 perhaps-lit-requires c κs = search needs
@@ -303,38 +311,31 @@ none-known-requires-2 : tie.Need-none-known-requires-2 Inv-loop μ-loop
 none-known-requires-2 c κs = search needs
 
 slice-aggregate-meets-2 : tie.Need-slice-aggregate-meets-2 Inv-loop μ-loop
-slice-aggregate-meets-2 c = search needs
-
-code-of-requires : tie.Need-code-of-requires Inv-loop μ-loop
-code-of-requires c κs = search needs
+slice-aggregate-meets-2 c = sym (c .before .before .before .before .before .before .before .before .before .before .before .before .before .before .before .loop .inv .1 .size)
 
 meets-requires-2 : tie.Need-meets-requires-2 Inv-loop μ-loop
-meets-requires-2 c κs = search needs
+meets-requires-2 c κs = c .before .before .before .before .before .before .before .before .before .before .before .before .before .before .before .loop .inv .1 .size
+
+mul-i-4 : tie.Need-mul-i-4 Inv-loop μ-loop
+mul-i-4 c = record { fits = omega (arith, (c .before .before .before .before .before .before .shared2 .ensures) .run .fits, c .before .before .before .before .before .before .before .before .before .before .before .before .before .before .before .before .before .before .good .1 .1 .1 .1 .0) }
 
 add-i-7 : tie.Need-add-i-7 Inv-loop μ-loop
-add-i-7 c = let a = c .before .before .before .before .before .before .before .before .before .before .before .before .before .before .before .args in
-    let at = c .before .before .before .before .before .before .before .before .before .before .before .before .loop in
-    let there = shown-as (a .bytes .now) (at .i) (c .before .before .before .before .before .before .before .before .record2 .given .1) (c .before .before .before .before .before .before .before .before .before .before .everyday-at .ensures) .there in
-    record { fits = omega (arith, there, c .before .before .before .before .before .before .before .before .before .before .before .before .before .before .before .good .1 .1 .1 .1 .0) }
+add-i-7 c = record { fits = omega (arith, (c .before .before .before .before .before .before .shared2 .ensures) .run .fits, c .before .before .before .before .before .before .before .before .before .before .before .before .before .before .before .before .before .before .good .1 .1 .1 .1 .0) }
 
 loop-less-7 : tie.Need-loop-less-7 Inv-loop μ-loop
-loop-less-7 c = let a = c .before .before .before .before .before .before .before .before .before .before .before .before .before .before .before .args in
-    let at = c .before .before .before .before .before .before .before .before .before .before .before .before .loop in
-    let there = shown-as (a .bytes .now) (at .i) (c .before .before .before .before .before .before .before .before .record2 .given .1) (c .before .before .before .before .before .before .before .before .before .before .everyday-at .ensures) .there in
-    omega (arith, there)
+loop-less-7 c = omega (arith, (c .before .before .before .before .before .before .shared2 .ensures) .run .fits, (c .before .before .before .before .before .before .shared2 .ensures) .counted)
 
 loop-again-7 : tie.Need-loop-again-7 Inv-loop μ-loop
-loop-again-7 c = let a = c .before .before .before .before .before .before .before .before .before .before .before .before .before .before .before .args in
-    let at = c .before .before .before .before .before .before .before .before .before .before .before .before .loop in
+loop-again-7 c = let a = c .before .before .before .before .before .before .before .before .before .before .before .before .before .before .before .before .before .before .args in
+    let at = c .before .before .before .before .before .before .before .before .before .before .before .before .before .before .before .loop in
     let first : Knowledge = record { cells = a .first; control = a .was } in
-    let b = shown-as (a .bytes .now) (at .i) (c .before .before .before .before .before .before .before .before .record2 .given .1) (c .before .before .before .before .before .before .before .before .before .before .everyday-at .ensures) in
-    let byte = c .before .before .before .before .before .before .before .before .record2 .given .0 .0 in
-    let lit = c .before .before .before .perhaps-lit in
-    let steps = drifts (a .family) (at .control) (lit .result) byte (hit (sizesOf (a .family)) (at .control) (c .before .before .before .before .enum-told5 .given .1) (c .before .before .before .before .before .before .goes-to .ensures)) (lit .ensures) in (
-      omega (arith, b .there),
+    let shares = c .before .before .before .before .before .before .shared2 .ensures in
+    let on : (new : List ℕ) → length new ≡ 36 → _ → Here (a .part) (a .family) (a .bytes .now) first _ new _ =
+    λ new size cells. drift-on (a .part) (a .family) (a .bytes .now) first (at .i) _ _ _ (at .cells) new (at .control) _ (hit (sizesOf (a .family)) (at .control) (c .before .before .before .before .before .before .before .enum-told5 .given .1) (c .before .before .before .before .before .before .before .before .before .goes-to .ensures)) shares (c .before .before .before .before .before .cut .ensures 4 wide4) (c .before .before .before .before .perhaps-lit .ensures) size cells (at .inv .1) in (
+      shares .run .fits,
       ⊎-elim
-          (λ x. here-as (a .part) (a .family) (a .bytes .now) first refl (x .5) refl (took (a .part) (a .family) (a .bytes .now) first (at .i) byte (at .cells) (x .3 .last .1 .0) (at .control) _ b (x .4 .given) steps (met-byte 8 65535 byte _ (at .cells) _ 0 1 (sizesOf (a .family) .cells) wide8 (x .2 .ensures 8 wide8) (x .3 .ensures)) (at .inv .1)))
-          (λ x. here-as (a .part) (a .family) (a .bytes .now) first refl (x .1) refl (took (a .part) (a .family) (a .bytes .now) first (at .i) byte (at .cells) (at .cells) (at .control) _ b (at .inv .1 .size) steps (unmet (at .cells) (record { 0 = 0 }) 1 (sizesOf (a .family) .cells) byte (λ j k. c .before .none-known2 .ensures (holds-then _ (x .0 .left)) 8 j k)) (at .inv .1))) (c .if2 .came),
+          (λ x. here-as (a .part) (a .family) (a .bytes .now) first refl (x .4) refl (on (x .2 .last .1 .0) (x .3 .given) (met-together (a .part) (a .family) (a .bytes .now) first (at .i) _ _ (at .cells) _ shares (x .2 .ensures))))
+          (λ x. here-as (a .part) (a .family) (a .bytes .now) first refl (x .1) refl (on (at .cells) (at .inv .1 .size) (none-together (a .part) (a .family) (a .bytes .now) first (at .i) (c .before .before .before .before .before .before .shared2 .result .count) (at .cells) (λ j k. c .before .before .none-known2 .ensures (holds-then _ (x .0 .left)) 8 j k)))) (c .before .if2 .came),
     )
 
 enum-told-6 : tie.Need-enum-told-6 Inv-loop μ-loop
@@ -346,8 +347,8 @@ passed-requires-2 c κs = let a = c .before .before .before .before .before .bef
     let b = shown-as (a .bytes .now) (at .i) (c .before .before .before .before .record2 .given .1) (c .before .before .before .before .before .before .everyday-at .ensures) in
     (b .there, b .kind)
 
-mul-i-4 : tie.Need-mul-i-4 Inv-loop μ-loop
-mul-i-4 c = record { fits = omega (arith, (c .passed2 .ensures .1) .fits, c .before .before .before .before .before .before .before .before .before .before .before .before .good .1 .1 .1 .1 .0) }
+mul-i-5 : tie.Need-mul-i-5 Inv-loop μ-loop
+mul-i-5 c = record { fits = omega (arith, (c .passed2 .ensures .1) .fits, c .before .before .before .before .before .before .before .before .before .before .before .before .good .1 .1 .1 .1 .0) }
 
 add-i-8 : tie.Need-add-i-8 Inv-loop μ-loop
 add-i-8 c = record { fits = omega (arith, (c .passed2 .ensures .1) .fits, c .before .before .before .before .before .before .before .before .before .before .before .before .good .1 .1 .1 .1 .0) }
@@ -389,6 +390,9 @@ loop-again-9 c = let a = c .before .before .before .before .before .before .befo
 enum-known-to-2 : tie.Need-enum-known-to-2 Inv-loop μ-loop
 enum-known-to-2 c = search needs
 
+code-of-requires : tie.Need-code-of-requires Inv-loop μ-loop
+code-of-requires c κs = search needs
+
 perhaps-lit-requires-2 : tie.Need-perhaps-lit-requires-2 Inv-loop μ-loop
 perhaps-lit-requires-2 c κs = search needs
 
@@ -396,57 +400,60 @@ perhaps-stepped-requires : tie.Need-perhaps-stepped-requires Inv-loop μ-loop
 perhaps-stepped-requires c κs = search needs
 
 slice-aggregate-meet-one : tie.Need-slice-aggregate-meet-one Inv-loop μ-loop
-slice-aggregate-meet-one c = sym (c .before .before .before .before .before .before .before .before .before .before .before .before .loop .inv .1 .size)
+slice-aggregate-meet-one c = sym (c .before .before .before .before .before .before .before .before .before .before .before .before .before .loop .inv .1 .size)
 
 meet-one-requires : tie.Need-meet-one-requires Inv-loop μ-loop
-meet-one-requires c κs = let a = c .before .before .before .before .before .before .before .before .before .before .before .before .before .before .before .args in
-    let at = c .before .before .before .before .before .before .before .before .before .before .before .before .loop in
-    let h = hit (sizesOf (a .family)) (at .control) (c .before .before .before .before .to2 .given .1) (c .before .before .before .before .before .before .goes-to .ensures) in
+meet-one-requires c κs = let a = c .before .before .before .before .before .before .before .before .before .before .before .before .before .before .before .before .args in
+    let at = c .before .before .before .before .before .before .before .before .before .before .before .before .before .loop in
+    let h = hit (sizesOf (a .family)) (at .control) (c .before .before .before .before .before .to2 .given .1) (c .before .before .before .before .before .before .before .goes-to .ensures) in
     omega (arith, h .1, room (a .family) .0, at .inv .1 .size)
 
 add-i-10 : tie.Need-add-i-10 Inv-loop μ-loop
-add-i-10 c = let a = c .before .before .before .before .before .before .before .before .before .before .before .before .before .before .before .before .before .args in
-    let at = c .before .before .before .before .before .before .before .before .before .before .before .before .before .before .loop in
-    let there = shown-as (a .bytes .now) (at .i) (c .before .before .before .before .before .before .before .before .before .before .record2 .given .1) (c .before .before .before .before .before .before .before .before .before .before .before .before .everyday-at .ensures) .there in
-    record { fits = omega (arith, there, c .before .before .before .before .before .before .before .before .before .before .before .before .before .before .before .before .before .good .1 .1 .1 .1 .0) }
+add-i-10 c = let a = c .before .before .before .before .before .before .before .before .before .before .before .before .before .before .before .before .before .before .args in
+    let at = c .before .before .before .before .before .before .before .before .before .before .before .before .before .before .before .loop in
+    let there = shown-as (a .bytes .now) (at .i) (c .before .before .before .before .before .before .before .before .before .before .before .record2 .given .1) (c .before .before .before .before .before .before .before .before .before .before .before .before .before .everyday-at .ensures) .there in
+    record { fits = omega (arith, there, c .before .before .before .before .before .before .before .before .before .before .before .before .before .before .before .before .before .before .good .1 .1 .1 .1 .0) }
 
 loop-less-10 : tie.Need-loop-less-10 Inv-loop μ-loop
-loop-less-10 c = let a = c .before .before .before .before .before .before .before .before .before .before .before .before .before .before .before .before .before .args in
-    let at = c .before .before .before .before .before .before .before .before .before .before .before .before .before .before .loop in
-    let there = shown-as (a .bytes .now) (at .i) (c .before .before .before .before .before .before .before .before .before .before .record2 .given .1) (c .before .before .before .before .before .before .before .before .before .before .before .before .everyday-at .ensures) .there in
+loop-less-10 c = let a = c .before .before .before .before .before .before .before .before .before .before .before .before .before .before .before .before .before .before .args in
+    let at = c .before .before .before .before .before .before .before .before .before .before .before .before .before .before .before .loop in
+    let there = shown-as (a .bytes .now) (at .i) (c .before .before .before .before .before .before .before .before .before .before .before .record2 .given .1) (c .before .before .before .before .before .before .before .before .before .before .before .before .before .everyday-at .ensures) .there in
     omega (arith, there)
 
 loop-again-10 : tie.Need-loop-again-10 Inv-loop μ-loop
-loop-again-10 c = let a = c .before .before .before .before .before .before .before .before .before .before .before .before .before .before .before .before .before .args in
-    let at = c .before .before .before .before .before .before .before .before .before .before .before .before .before .before .loop in
+loop-again-10 c = let a = c .before .before .before .before .before .before .before .before .before .before .before .before .before .before .before .before .before .before .args in
+    let at = c .before .before .before .before .before .before .before .before .before .before .before .before .before .before .before .loop in
     let first : Knowledge = record { cells = a .first; control = a .was } in
-    let b = shown-as (a .bytes .now) (at .i) (c .before .before .before .before .before .before .before .before .before .before .record2 .given .1) (c .before .before .before .before .before .before .before .before .before .before .before .before .everyday-at .ensures) in
-    (omega (arith, b .there), took (a .part) (a .family) (a .bytes .now) first (at .i) _ (at .cells) _ (at .control) (record { control = c .before .before .before .perhaps-stepped .result; change = Meet (c .before .before .before .before .before .before .to2 .given .0 .0) 1 1 (c .before .before .before .before .before .before .before .before .before .before .record2 .given .0 .0) }) b (c .cells12 .given) (drifts-at (a .family) (at .control) _ _ _ _ ((hit (sizesOf (a .family)) (at .control) (c .before .before .before .before .before .before .to2 .given .1) (c .before .before .before .before .before .before .before .before .goes-to .ensures)) .0) ((hit (sizesOf (a .family)) (at .control) (c .before .before .before .before .before .before .to2 .given .1) (c .before .before .before .before .before .before .before .before .goes-to .ensures)) .1) (c .before .before .before .before .perhaps-lit2 .ensures) (c .before .before .before .perhaps-stepped .ensures)) (c .before .meet-one .ensures 8 wide8) (at .inv .1))
+    let b = shown-as (a .bytes .now) (at .i) (c .before .before .before .before .before .before .before .before .before .before .before .record2 .given .1) (c .before .before .before .before .before .before .before .before .before .before .before .before .before .everyday-at .ensures) in
+    (omega (arith, b .there), took (a .part) (a .family) (a .bytes .now) first (at .i) _ (at .cells) _ (at .control) (record { control = c .before .before .before .perhaps-stepped .result; change = Meet (c .before .before .before .before .before .before .before .to2 .given .0 .0) 1 1 (c .before .before .before .before .before .before .before .before .before .before .before .record2 .given .0 .0) }) b (c .cells12 .given) (drifts-at (a .family) (at .control) _ _ _ _ _ ((hit (sizesOf (a .family)) (at .control) (c .before .before .before .before .before .before .before .to2 .given .1) (c .before .before .before .before .before .before .before .before .before .goes-to .ensures)) .0) ((hit (sizesOf (a .family)) (at .control) (c .before .before .before .before .before .before .before .to2 .given .1) (c .before .before .before .before .before .before .before .before .before .goes-to .ensures)) .1) (c .before .before .before .before .before .code-of .ensures 4 wide4) (c .before .before .before .before .perhaps-lit2 .ensures) (c .before .before .before .perhaps-stepped .ensures)) (c .before .meet-one .ensures 8 wide8) (at .inv .1))
 
 enum-told-8 : tie.Need-enum-told-8 Inv-loop μ-loop
 enum-told-8 c = search needs
+
+code-of-requires-2 : tie.Need-code-of-requires-2 Inv-loop μ-loop
+code-of-requires-2 c κs = search needs
 
 perhaps-lit-requires-3 : tie.Need-perhaps-lit-requires-3 Inv-loop μ-loop
 perhaps-lit-requires-3 c κs = search needs
 
 add-i-11 : tie.Need-add-i-11 Inv-loop μ-loop
-add-i-11 c = let a = c .before .before .before .before .before .before .before .before .before .before .before .before .args in
-    let at = c .before .before .before .before .before .before .before .before .before .loop in
-    let there = shown-as (a .bytes .now) (at .i) (c .before .before .before .before .before .record2 .given .1) (c .before .before .before .before .before .before .before .everyday-at .ensures) .there in
-    record { fits = omega (arith, there, c .before .before .before .before .before .before .before .before .before .before .before .before .good .1 .1 .1 .1 .0) }
+add-i-11 c = let a = c .before .before .before .before .before .before .before .before .before .before .before .before .before .args in
+    let at = c .before .before .before .before .before .before .before .before .before .before .loop in
+    let there = shown-as (a .bytes .now) (at .i) (c .before .before .before .before .before .before .record2 .given .1) (c .before .before .before .before .before .before .before .before .everyday-at .ensures) .there in
+    record { fits = omega (arith, there, c .before .before .before .before .before .before .before .before .before .before .before .before .before .good .1 .1 .1 .1 .0) }
 
 loop-less-11 : tie.Need-loop-less-11 Inv-loop μ-loop
-loop-less-11 c = let a = c .before .before .before .before .before .before .before .before .before .before .before .before .args in
-    let at = c .before .before .before .before .before .before .before .before .before .loop in
-    let there = shown-as (a .bytes .now) (at .i) (c .before .before .before .before .before .record2 .given .1) (c .before .before .before .before .before .before .before .everyday-at .ensures) .there in
+loop-less-11 c = let a = c .before .before .before .before .before .before .before .before .before .before .before .before .before .args in
+    let at = c .before .before .before .before .before .before .before .before .before .before .loop in
+    let there = shown-as (a .bytes .now) (at .i) (c .before .before .before .before .before .before .record2 .given .1) (c .before .before .before .before .before .before .before .before .everyday-at .ensures) .there in
     omega (arith, there)
 
 loop-again-11 : tie.Need-loop-again-11 Inv-loop μ-loop
-loop-again-11 c = let a = c .before .before .before .before .before .before .before .before .before .before .before .before .args in
-    let at = c .before .before .before .before .before .before .before .before .before .loop in
+loop-again-11 c = let a = c .before .before .before .before .before .before .before .before .before .before .before .before .before .args in
+    let at = c .before .before .before .before .before .before .before .before .before .before .loop in
     let first : Knowledge = record { cells = a .first; control = a .was } in
-    let b = shown-as (a .bytes .now) (at .i) (c .before .before .before .before .before .record2 .given .1) (c .before .before .before .before .before .before .before .everyday-at .ensures) in
-    (omega (arith, b .there), took (a .part) (a .family) (a .bytes .now) first (at .i) _ (at .cells) (at .cells) (at .control) (keptOf (c .perhaps-lit3 .result)) b (at .inv .1 .size) (drifts-lit (a .family) (at .control) _ _ (hit (sizesOf (a .family)) (at .control) (c .before .enum-told8 .given .1) (c .before .before .before .goes-to .ensures)) (c .perhaps-lit3 .ensures)) (λ j k. refl) (at .inv .1))
+    let b = shown-as (a .bytes .now) (at .i) (c .before .before .before .before .before .before .record2 .given .1) (c .before .before .before .before .before .before .before .before .everyday-at .ensures) in
+    (omega (arith, b .there), took (a .part) (a .family) (a .bytes .now) first (at .i) _ (at .cells) (at .cells) (at .control) (keptOf (c .perhaps-lit3 .result)) b (at .inv .1 .size) (drifts-lit (a .family) (at .control) _ _ _ (hit (sizesOf (a .family)) (at .control) (c .before .before .enum-told8 .given .1) (c .before .before .before .before .goes-to .ensures)) (c .before .code-of2 .ensures 4 wide4) (c .perhaps-lit3 .ensures)) (λ j k. refl) (at .inv .1))
 
 enum-told-9 : tie.Need-enum-told-9 Inv-loop μ-loop
 enum-told-9 c = search needs
@@ -466,8 +473,8 @@ passed-requires-3 c κs = let a = c .before .before .before .before .before .bef
     let b = shown-as (a .bytes .now) (at .i) (c .before .before .before .before .before .before .before .before .before .record2 .given .1) (c .before .before .before .before .before .before .before .before .before .before .before .everyday-at .ensures) in
     (b .there, b .kind)
 
-mul-i-5 : tie.Need-mul-i-5 Inv-loop μ-loop
-mul-i-5 c = record { fits = omega (arith, (c .passed3 .ensures .1) .fits, c .before .before .before .before .before .before .before .before .before .before .before .before .before .before .before .before .before .good .1 .1 .1 .1 .0) }
+mul-i-6 : tie.Need-mul-i-6 Inv-loop μ-loop
+mul-i-6 c = record { fits = omega (arith, (c .passed3 .ensures .1) .fits, c .before .before .before .before .before .before .before .before .before .before .before .before .before .before .before .before .before .good .1 .1 .1 .1 .0) }
 
 add-i-12 : tie.Need-add-i-12 Inv-loop μ-loop
 add-i-12 c = record { fits = omega (arith, (c .passed3 .ensures .1) .fits, c .before .before .before .before .before .before .before .before .before .before .before .before .before .before .before .before .before .good .1 .1 .1 .1 .0) }
@@ -662,18 +669,20 @@ walk-spec =
     loop-less-6
     loop-again-6
     enum-told-5
+    shared-requires-2
+    cut-requires
     perhaps-lit-requires
     slice-aggregate-none-known-2
     none-known-requires-2
     slice-aggregate-meets-2
-    code-of-requires
     meets-requires-2
+    mul-i-4
     add-i-7
     loop-less-7
     loop-again-7
     enum-told-6
     passed-requires-2
-    mul-i-4
+    mul-i-5
     add-i-8
     loop-less-8
     loop-again-8
@@ -683,6 +692,7 @@ walk-spec =
     loop-less-9
     loop-again-9
     enum-known-to-2
+    code-of-requires
     perhaps-lit-requires-2
     perhaps-stepped-requires
     slice-aggregate-meet-one
@@ -691,6 +701,7 @@ walk-spec =
     loop-less-10
     loop-again-10
     enum-told-8
+    code-of-requires-2
     perhaps-lit-requires-3
     add-i-11
     loop-less-11
@@ -700,7 +711,7 @@ walk-spec =
     slice-aggregate-none-known-3
     none-known-requires-3
     passed-requires-3
-    mul-i-5
+    mul-i-6
     add-i-12
     loop-less-12
     loop-again-12
