@@ -33,7 +33,7 @@ use lamps::TWO;
 use one_record::Everyday;
 use one_record::everyday_at;
 use one_record::record_at;
-use pointing::place_of;
+use pointing::stops_at;
 use recording::Ending;
 use recording::Read;
 use terms::Event;
@@ -138,9 +138,8 @@ pub fn character_walk(part: Part, k: Knowledge, bytes: &[u8]) -> CharacterWalked
                         i += length;
                     }
                     Read::Refused(refusal) => {
-                        let at = place_of(refusal, bytes, Place(i));
                         return CharacterWalked {
-                            ending: Ending::Stops(refusal, at),
+                            ending: stops_at(refusal, bytes, Place(i)),
                             k: Knowledge {
                                 dcram,
                                 cgram,

@@ -1,4 +1,5 @@
 // Where a refusal points.
+use recording::Ending;
 use recording::Refusal;
 use terms::Place;
 ghost use mathlib.Core.Path.{_≡_};
@@ -6,6 +7,7 @@ ghost use Prim.Native.Nat.{_+_, _<_};
 ghost use lib.ListN.{length, getD};
 ghost use Rattle.recording.specs.Record.{placeWithin};
 ghost use Rattle.recording.specs.declared.read.Refusal.the-variants.{Forbidden};
+ghost use Rattle.recording.specs.declared.ending.Ending.the-variants.{Stops};
 
 // The place of a refusal, where the record that is none starts at the place `first`. The kind is looked at for every refusal: so compiled, a walk takes
 // two to four instructions a record less than with the look in the last arm.
@@ -21,6 +23,15 @@ pub fn place_of(refusal: Refusal, bytes: &[u8], first: Place) -> Place
         Refusal::CutShort => first,
         Refusal::Forbidden => Place(i + fault),
     }
+}
+
+// How a walk over records ends there.
+pub fn stops_at(refusal: Refusal, bytes: &[u8], first: Place) -> Ending
+    requires { ⌜ first .0 + placeWithin refusal (getD (now bytes) (first .0) 0) < length (now bytes) ⌝ }
+    ensures { λ r. ⌜ r ≡ Stops refusal (record { 0 = first .0 + placeWithin refusal (getD (now (bytes .entry)) (first .0) 0) }) ⌝ }
+{
+    let at = place_of(refusal, bytes, first);
+    Ending::Stops(refusal, at)
 }
 
 // How far behind the kind the body byte at fault stands.

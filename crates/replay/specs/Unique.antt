@@ -35,7 +35,7 @@ module _ (k : Panel) (l : List ℕ) (r q : Replayed) where
     same-way (Refused at) start h g = refused 1 0 h g
 
   -- The number and the place go by the part, the knowledge and the recording alone.
-  pub one-number : (part : PartRead) (start : ℕ) → Replays part k l start r → Replays part k l start q
+  one-number : (part : PartRead) (start : ℕ) → Replays part k l start r → Replays part k l start q
       → (number (r .answer) ≡ number (q .answer)) × (place (r .answer) ≡ place (q .answer))
   one-number =
       same-way (λ n at h g. (h .numbered ∙ sym (g .numbered), h .placed ∙ sym (g .placed)))

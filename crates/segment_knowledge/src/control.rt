@@ -5,7 +5,7 @@ ghost use mathlib.Core.Path.{_≡_};
 ghost use Prim.Native.Nat.{ℕ};
 ghost use Rattle.knowing.specs.Standing.{Standing as Of·Standing, unknown};
 ghost use Rattle.knowing.specs.Ways.{Learns};
-ghost use Rattle.segment.specs.Fact.{Fact, same?, dataMode, stepping, position};
+ghost use Rattle.segment.specs.Fact.{Fact, same?, dataMode, position};
 ghost use Rattle.segment_knowledge.specs.View.{cview};
 
 // The address: a cell, invalid, or unknown.
@@ -65,16 +65,6 @@ pub fn with_data(c: Control, mode: u8) -> Control
 {
     Control {
         data: Standing::Known(mode),
-        ..c
-    }
-}
-
-// The same with the stepping known.
-pub fn stepping_by(c: Control, step: u8) -> Control
-    ensures { λ r. ⌜ ((cells : ℕ → ℕ → Of·Standing) → Learns (cview cells) same? stepping step c r) ⌝ }
-{
-    Control {
-        stepping: Standing::Known(step),
         ..c
     }
 }

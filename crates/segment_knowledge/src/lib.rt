@@ -7,7 +7,6 @@ pub use control::Control;
 pub use control::Pointing;
 pub use control::at;
 pub use control::no_control;
-pub use control::stepping_by;
 pub use control::with_data;
 pub use knowledge::Knowledge;
 pub use knowledge::nothing_known;

@@ -6,7 +6,7 @@ use mathlib.Core.Path.{_≡_, refl, sym, ap, _∙_, subst⁻¹}
 use mathlib.Core.Bool.{Bool, true, false}
 use lib.Dec.{eqb}
 use borrow.Author.Tests.{eq-eqb, ne-eqb}
-use Rattle.rules.specs.Choice.{whether, bit, of2, of4, of4-all}
+use Rattle.rules.specs.Choice.{whether, bit, of4, of4-all}
 use Rattle.rules.specs.Rule.{Rule, gives, look}
 use Rattle.knowing.specs.Standing as Of
 use Rattle.knowing.specs.Know.{lifted, learn, join, common, know}
@@ -64,10 +64,6 @@ high-read a zero p = absurd (omega arith)
 high-read a (suc zero) p = absurd (omega arith)
 high-read a (suc (suc zero)) p = refl
 high-read a (suc (suc (suc n))) p = refl
-
-pub other-step : (a b : Rule Fact Fact) (n : ℕ) → ¬ (n ≡ 0) → of2 a b n ≡ b
-other-step a b zero p = absurd (p refl)
-other-step a b (suc n) p = refl
 
 -- An unknown read count stays unknown, and nothing else changes.
 pub count-unknown : (s : Sizes) (c : Beside) → stands (c .count) ≡ Of.unknown → Keeps s (look readCount counted) c c

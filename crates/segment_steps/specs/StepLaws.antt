@@ -1,16 +1,15 @@
 -- Laws of steps: a control that keeps or forgets the cells is a step, and two steps that can be told together have in common, fact by fact, what both have.
 use Prim.Native.Nat.{ℕ}
-use mathlib.Core.Path.{_≡_, refl, ap, _∙_, subst⁻¹}
+use mathlib.Core.Path.{_≡_, ap, _∙_, subst⁻¹}
 use Rattle.rules.specs.Rule.{Rule}
 use Rattle.knowing.specs.Standing.{Standing}
 use Rattle.knowing.specs.Know.{join}
 use Rattle.knowing.specs.Steps as Of
 use Rattle.knowing.specs.Ways.{Joins}
 use Rattle.changes.specs.declared.change.Change.{Change}
-use Rattle.changes.specs.declared.change.Change.the-variants.{Keep, Put}
-use Rattle.changes.specs.Change.{seen, Inside, TogetherWith, Together, Plain}
+use Rattle.changes.specs.declared.change.Change.the-variants.{Keep}
+use Rattle.changes.specs.Change.{seen, Inside, Together, Plain}
 use Rattle.changes.specs.Together.{joined-seen, joined-inside, plain-together, together-plain, plain-joined}
-use Rattle.terms.specs.declared.Address.{Address}
 use Rattle.segment.specs.declared.chip.Sizes.{Sizes}
 use Rattle.segment.specs.Fact.{Fact, same?, range, address, dataMode, stepping, mode, dimming, display, led, key, switches, readCount, position}
 use Rattle.segment.specs.Laws.{every}
@@ -41,10 +40,6 @@ both-joins {a} {b} {r} t h cells =
 
 pub both-inside : {a b r : Step} → Both a b r → Inside 36 (a .change) → Inside 36 (b .change) → Inside 36 (r .change)
 both-inside {a} {b} {r} h p q = subst⁻¹ (λ (x : Change). Inside 36 x) (h .change) (joined-inside 36 (a .change) (b .change) p q)
-
--- Two steps that put the same byte in the same cell.
-pub put-put : {x y : Step} {a : Address} {b : ℕ} → x .change ≡ Put a b → y .change ≡ Put a b → Told x y
-put-put {x} {y} {a} {b} p q = record { so = subst⁻¹ (λ (z : Change). Together z (y .change)) p (subst⁻¹ (λ (z : Change). TogetherWith (Put a b) z) q refl) }
 
 -- A step that keeps the cells, and another.
 pub kept-with : {c : Control} {a b : Step} → a ≡ keptOf c → Told a b

@@ -12,7 +12,7 @@ use lamps::none_known;
 use one_record::Everyday;
 use one_record::everyday_at;
 use one_record::record_at;
-use pointing::place_of;
+use pointing::stops_at;
 use recording::Ending;
 use recording::Read;
 use segment::Command;
@@ -168,9 +168,8 @@ fn walk(part: Part, family: Family, first: [u16; 36], was: Control, bytes: &[u8]
                         i += length;
                     }
                     Read::Refused(refusal) => {
-                        let at = place_of(refusal, bytes, Place(i));
                         return SegmentWalked {
-                            ending: Ending::Stops(refusal, at),
+                            ending: stops_at(refusal, bytes, Place(i)),
                             k: Knowledge { cells, control },
                         };
                     }

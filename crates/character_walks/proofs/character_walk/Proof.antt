@@ -10,9 +10,7 @@ use Prim.Native.Nat.{_+_, _-_}
 use lib.ListN.{length}
 use Rattle.recording.specs.Steps.{rest, rest-end, rest-stops, stop-fits}
 use Rattle.recording.specs.Walk.{walked, done}
-use Rattle.recording.specs.declared.ending.Ending.the-variants.{Stops}
 use Rattle.recording.specs.declared.read.Read.the-variants.{Is}
-use Rattle.terms.specs.declared.Place.{Place}
 use Rattle.terms.specs.declared.Event.the-variants.{Falls, ByteIn, Rises, Gap}
 use Rattle.lamps.specs.Lamp.{wide8, wide7, wide2}
 use Rattle.one_record.specs.Glance.{InByte}
@@ -456,8 +454,8 @@ loop-again-11 c = let at = c .before .before .before .before .before .before .be
 enum-known-read-2 : tie.Need-enum-known-read-2 Inv-loop μ-loop
 enum-known-read-2 c = search needs
 
-place-of-requires : tie.Need-place-of-requires Inv-loop μ-loop
-place-of-requires c κs = let a = c .before .before .before .before .before .before .before .before .before .before .before .before .before .before .args in
+stops-at-requires : tie.Need-stops-at-requires Inv-loop μ-loop
+stops-at-requires c κs = let a = c .before .before .before .before .before .before .before .before .before .before .before .before .before .before .args in
     stop-fits (a .part) (a .bytes .now) (c .before .before .before .before .before .before .before .before .loop .i) _ (c .before .before .before .before .before .before .before .loop-test .taken) (sym (c .before .before .before .record-at .ensures) ∙ c .before .read2 .given .1)
 
 returns : tie.Need-returns Inv-loop μ-loop
@@ -466,7 +464,7 @@ returns c = let a = c .before .before .before .before .before .before .before .b
     let w = walked (a .part) (a .bytes .now) in
     let h = rest-stops (a .part) (a .bytes .now) (at .i) _ (c .before .before .before .before .before .before .before .before .loop-test .taken) (sym (c .before .before .before .before .record-at .ensures) ∙ c .before .before .read2 .given .1) in
     let d = kept-stops same? range move w (kview (a .k)) _ _ _ (kept-as same? range move w (kview (a .k)) (rest (a .part) (a .bytes .now) (at .i)) _ _ h (at .inv .kept)) in
-    record { ended = ap (λ (x : Place). Stops (c .before .before .read2 .given .0 .0) x) (c .place-of .ensures) ∙ d .0; known = d .1 }
+    record { ended = c .stops-at .ensures ∙ d .0; known = d .1 }
 
 returns-2 : tie.Need-returns-2 Inv-loop μ-loop
 returns-2 c = let a = c .before .before .before .before .before .before .before .args in
@@ -590,6 +588,6 @@ character-walk-spec =
     loop-less-11
     loop-again-11
     enum-known-read-2
-    place-of-requires
+    stops-at-requires
     returns
     returns-2)

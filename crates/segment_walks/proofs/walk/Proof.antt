@@ -3,13 +3,11 @@
 use borrow.Author.Needs.{needs}
 use Prim.Native.Nat.{ℕ, _+_, _≤_, _-_}
 use native.Mathlib.Omega.{arith}
-use mathlib.Core.Path.{_≡_, refl, sym, ap, _∙_}
+use mathlib.Core.Path.{_≡_, refl, sym, _∙_}
 use lib.ListN.{length, drop, length-drop}
 use Rattle.recording.specs.Steps.{rest, rest-end, rest-stops, stop-fits}
 use Rattle.recording.specs.Tests.{record-fits}
 use Rattle.recording.specs.Walk.{walked, done}
-use Rattle.recording.specs.declared.ending.Ending.the-variants.{Stops}
-use Rattle.terms.specs.declared.Place.{Place}
 use Rattle.segment.specs.Fact.{same?, range}
 use Rattle.segment.specs.Family.{sizes as sizesOf}
 use Rattle.segment.specs.Move.{move}
@@ -583,8 +581,8 @@ loop-again-15 c = let a = c .before .before .before .before .before .before .bef
 enum-known-read-2 : tie.Need-enum-known-read-2 Inv-loop μ-loop
 enum-known-read-2 c = search needs
 
-place-of-requires : tie.Need-place-of-requires Inv-loop μ-loop
-place-of-requires c κs = let a = c .before .before .before .before .before .before .before .before .before .before .before .args in
+stops-at-requires : tie.Need-stops-at-requires Inv-loop μ-loop
+stops-at-requires c κs = let a = c .before .before .before .before .before .before .before .before .before .before .before .args in
     let at = c .before .before .before .before .before .before .before .before .loop in
     stop-fits (a .part) (a .bytes .now) (at .i) _ (c .before .before .before .before .before .before .before .loop-test .taken) (sym (c .before .before .before .record-at .ensures) ∙ c .before .read2 .given .1)
 
@@ -594,7 +592,7 @@ returns c = let a = c .before .before .before .before .before .before .before .b
     let first : Knowledge = record { cells = a .first; control = a .was } in
     let h = rest-stops (a .part) (a .bytes .now) (at .i) _ (c .before .before .before .before .before .before .before .before .loop-test .taken) (sym (c .before .before .before .before .record-at .ensures) ∙ c .before .before .read2 .given .1) in
     let d = kept-stops same? (range (sizesOf (a .family))) (move (sizesOf (a .family))) (walked (a .part) (a .bytes .now)) (kview first) _ _ _ (kept-as same? (range (sizesOf (a .family))) (move (sizesOf (a .family))) (walked (a .part) (a .bytes .now)) (kview first) (rest (a .part) (a .bytes .now) (at .i)) _ _ h (at .inv .1 .kept)) in
-    record { ended = ap (λ (x : Place). Stops (c .before .before .read2 .given .0 .0) x) (c .place-of .ensures) ∙ d .0; known = d .1 }
+    record { ended = c .stops-at .ensures ∙ d .0; known = d .1 }
 
 returns-2 : tie.Need-returns-2 Inv-loop μ-loop
 returns-2 c = let a = c .before .before .before .before .args in
@@ -736,6 +734,6 @@ walk-spec =
     loop-less-15
     loop-again-15
     enum-known-read-2
-    place-of-requires
+    stops-at-requires
     returns
     returns-2)
