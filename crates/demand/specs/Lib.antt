@@ -5,8 +5,10 @@ pub mod Demand
 pub mod Append
 pub mod Gaps
 pub mod Tail
+pub mod Strobes
 pub mod Painting
 pub mod Update
+pub mod Streams
 pub mod Met
 pub mod Everything
 pub mod Packets

@@ -15,7 +15,6 @@ use Rattle.rules.specs.Where.{good, bad}
 use Rattle.knowing.specs.Standing.{Standing, Sound, Fits}
 use Rattle.knowing.specs.Holds.{holds}
 use Rattle.knowing.specs.Bytes.{holds-tests}
-use Rattle.knowing.specs.Turn.{inTurn}
 use Rattle.terms.specs.declared.Event.{Event}
 use Rattle.terms.specs.Event.{recording}
 use Rattle.terms.specs.Part.{partOf}
@@ -31,7 +30,7 @@ use Rattle.segment.specs.Family.{sizes}
 use Rattle.segment.specs.Fact as Segment
 use Rattle.segment.specs.Laws.{every}
 use Rattle.segment_knowledge.specs.View.{kview}
-use Rattle.parts.specs.Facts.{Fact, same?, range, move}
+use Rattle.parts.specs.Facts.{Fact, range, move}
 use Rattle.painting.specs.declared.Picture.{Picture}
 use Rattle.painting.specs.declared.SegmentPicture.{SegmentPicture}
 use Rattle.painting.specs.Segment.{painted}
@@ -41,8 +40,7 @@ use Rattle.panel.specs.declared.knowledge.Panel.{Panel}
 use Rattle.panel.specs.View.{knownOf, OtherKept}
 use Rattle.replay.specs.declared.replays.Replayed.{Replayed}
 use Rattle.answers.specs.Answer as Replay
-use Rattle.replay.specs.Replay.{PartDone, Replays}
-use Rattle.replay.specs.ByPart.{replays-by, accepts}
+use Rattle.replay.specs.Replay.{Replays}
 use Rattle.whole.specs.Sentence.{IsMemory}
 use Rattle.runs.specs.Count.{bytesIn}
 use Rattle.updating.specs.declared.Updated.{Updated}
@@ -54,6 +52,7 @@ use Rattle.updating.specs.Update.{differing, updateEvents}
 use Rattle.updating.specs.Updated.{updated}
 use Rattle.updated.specs.Leads as Leads
 use Rattle.demand.specs.Recording.{eventsFrom}
+use Rattle.demand.specs.Strobes.{Recorded, recorded-reads, recorded-done}
 
 -- What an update that is answered by number 0 has written: the recording of its events, at the front.
 pub record Wrote (p : Part) (k : Panel) (w out : List ℕ) (r : Updated) (after : List ℕ) : Type 0 where
@@ -142,9 +141,12 @@ module _ (b : ℕ) (p : Part) (named : partOf b ≡ Is p) (k : Panel) (w out : L
     stream-is : stream ≡ recording (updateFor p (knownOf p k) w)
     stream-is = ap (take (place r)) (done .sent .wrote) ∙ take-at (recording (updateFor p (knownOf p k) w)) _ (place r) (sym (done .sent .placed))
 
+    -- They are the recording of the update's events.
+    pub update-recorded : Recorded p (updateFor p (knownOf p k) w) stream
+    update-recorded = let few = done .short in record { is = stream-is; accepted = reads p (done .ring) (knownOf p k) w; short = omega arith }
+
     read : (endOf (walked p stream) ≡ Done) × (events (walked p stream) ≡ updateFor p (knownOf p k) w)
-    read =
-        subst⁻¹ (λ (l : List ℕ). (endOf (walked p l) ≡ Done) × (events (walked p l) ≡ updateFor p (knownOf p k) w)) stream-is (reads p (done .ring) (knownOf p k) w)
+    read = recorded-reads p (updateFor p (knownOf p k) w) stream update-recorded
 
     -- "For every chip that fits, the memory ends as after a full painting": the bytes are records to their end, and their events lead every chip that fits, in
     -- whatever state, to exactly one, the updated one.
@@ -174,16 +176,10 @@ module _ (b : ℕ) (p : Part) (named : partOf b ≡ Is p) (k : Panel) (w out : L
         → (Replay.number (q .answer) ≡ 0) × (Replay.place (q .answer) ≡ place r)
         × ((f : Fact p) → knownOf p (q .panel) f ≡ knownFor p (knownOf p k) w f) × OtherKept p k (q .panel)
     update-replays q again =
-        let long : length stream ≡ length (recording (updateFor p (knownOf p k) w)) = ap length stream-is in
-        let few = done .short in
-        let d : PartDone p (eventsFrom p 0 stream) k stream q =
-        accepts p k stream 0 q (replays-by k stream 0 q (partOf b) p named again)
-        (record { in-range = done .sound; short = omega (arith, long, few); within = omega arith; ends = read .0 }) in (
+        let d = recorded-done p (updateFor p (knownOf p k) w) stream update-recorded b named k (done .sound) q again in (
           d .numbered,
-          d .placed ∙ long ∙ sym (done .sent .placed),
-          λ f. d .known f
-              ∙ ap (λ (es : List Event). inTurn (same? p) (range p) (map (move p) es) (knownOf p k) f) (read .1)
-              ∙ knows p (done .ring) (knownOf p k) w f,
+          d .placed ∙ ap length stream-is ∙ sym (done .sent .placed),
+          λ f. d .known f ∙ knows p (done .ring) (knownOf p k) w f,
           d .kept,
         )
 
