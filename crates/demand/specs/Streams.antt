@@ -26,8 +26,8 @@ use Rattle.demand.specs.Strobes.{Recorded, recorded-done}
 use Rattle.demand.specs.Painting.{paint-only, paint-recorded}
 use Rattle.demand.specs.Update.{update-recorded}
 
--- A stream that `update` or `paint` wrote for the part byte b, from whatever they were handed: the bytes before the place of an answer with number 0. There
--- are such streams for each part that the call serves: `Update.update-answers` and `Painting.paint-answers`.
+-- A stream that `update` or `paint` wrote for the part byte b, from whatever they were handed: the bytes before the place of an answer with number 0. What
+-- `refresh` writes is the update's. There are such streams for each part that the call serves: `Update.update-answers` and `Painting.paint-answers`.
 pub data Written (b : ℕ) : List ℕ → Type 0 where
   by-update : (k : Panel) (w out : List ℕ) (r : Updated) (after : List ℕ) → Update.Updates (partOf b) k w out r after → Update.number r ≡ 0
       → Written b (take (Update.place r) after)

@@ -38,16 +38,19 @@ use Rattle.painting.specs.Picture.{paintedBy, OneEnd}
 use Rattle.painting.specs.Demand.{surely-one}
 use Rattle.panel.specs.declared.knowledge.Panel.{Panel}
 use Rattle.panel.specs.View.{knownOf, OtherKept}
+use Rattle.panel.specs.Unique.{Shaped, same-panel}
 use Rattle.replay.specs.declared.replays.Replayed.{Replayed}
 use Rattle.answers.specs.Answer as Replay
 use Rattle.replay.specs.Replay.{Replays}
 use Rattle.whole.specs.Sentence.{IsMemory}
 use Rattle.runs.specs.Count.{bytesIn}
 use Rattle.updating.specs.declared.Updated.{Updated}
+use Rattle.updating.specs.declared.Refreshed.{Refreshed}
 use Rattle.updating.specs.Answer.{number, place, count, Sent, streamOf, countOf, UpdatesSegment, UpdatesPart, Updates}
 use Rattle.updating.specs.Longest.{most-bytes}
+use Rattle.updating.specs.Refresh.{knownFor, Learns, KnownThen, Refreshes}
 use Rattle.runs.specs.Runs.{wanted}
-use Rattle.updated.specs.ByPart.{HasRing, cellsOf, cellIn, differsFor, differingFor, startsFor, settingFor, updateFor, updatedBy, knownFor, WrittenOn, update-bytes, counts, leads, writes, knows, reads, spelt}
+use Rattle.updated.specs.ByPart.{HasRing, cellsOf, cellIn, differsFor, differingFor, startsFor, settingFor, updateFor, updatedBy, WrittenOn, update-bytes, counts, leads, writes, knows, reads, spelt}
 use Rattle.updating.specs.Update.{differing, updateEvents}
 use Rattle.updating.specs.Updated.{updated}
 use Rattle.updated.specs.Leads as Leads
@@ -189,6 +192,21 @@ module _ (b : ℕ) (p : Part) (named : partOf b ≡ Is p) (k : Panel) (w out : L
     update-holds x q again i h =
         holds-tests 8 _ (wanted w i) .back
         (λ j l. update-replays q again .2 (cellIn p x i j) ∙ spelt p x (knownOf p k) w i h j l)
+
+-- The answer r of `refresh` and the output afterwards, where the update was sent; q is a replay of the bytes that it wrote.
+module _ (b : ℕ) (p : Part) (named : partOf b ≡ Is p) (k : Panel) (w out : List ℕ) (r : Refreshed) (after : List ℕ) (met : Refreshes (partOf b) k w out r after)
+    (zero : number (r .answer) ≡ 0) (q : Replayed) (again : Replays (partOf b) k (take (place (r .answer)) after) 0 q) where
+  learns : Learns p k w (r .panel)
+  learns = subst (λ (n : ℕ). KnownThen (Is p) n k w (r .panel)) zero (subst (λ (x : PartRead). KnownThen x (number (r .answer)) k w (r .panel)) named (met .1))
+
+  -- What `refresh` says is known is what the replay of its bytes tells.
+  pub refresh-as-replayed : (f : Fact p) → knownOf p (q .panel) f ≡ knownOf p (r .panel) f
+  refresh-as-replayed f = update-replays b p named k w out (r .answer) after (met .0) zero q again .2 f ∙ sym (learns .0 f)
+
+  -- And so, of panels whose rows are as long as their arrays, it is that panel.
+  pub refresh-is-replay : Shaped (q .panel) → Shaped (r .panel) → q .panel ≡ r .panel
+  refresh-is-replay sq sr =
+      same-panel p k (q .panel) (r .panel) sq sr refresh-as-replayed (update-replays b p named k w out (r .answer) after (met .0) zero q again .3) (learns .1)
 
 -- What is memory is no setting, input or position.
 no-setting : Segment.setting ≡ Segment.memory → ⊥

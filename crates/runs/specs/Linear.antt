@@ -1,6 +1,7 @@
 -- The runs as code writes them: once around the ring from a front before which no run starts, cell by cell, a strobe being open or not. The argument:
 -- where no strobe is open, a cell that differs starts a run, and where one is open, none does; so what is written from a cell on is what is left of the
--- open run, and the runs that start ahead.
+-- open run, and the runs that start ahead. For the same reason the cell behind the last one that differs, in the order in which they are written, is the
+-- cell behind the last run.
 use Prim.Native.Nat.{ℕ, zero, suc, _+_, _-_, _<_, _≤_}
 use native.Mathlib.Omega.{arith}
 use mathlib.Core.Path.{_≡_, refl, sym, ap, _∙_}
@@ -14,7 +15,7 @@ use Rattle.rules.specs.Choice.{whether}
 use Rattle.terms.specs.declared.Event.{Event}
 use Rattle.terms.specs.declared.Event.the-variants.{Falls, ByteIn, Rises}
 use Rattle.terms.specs.Event.{strobe}
-use Rattle.runs.specs.Runs.{those, before, behind, differing, all, starts, startsOf, row, runStrobe, strobesOf, runEvents}
+use Rattle.runs.specs.Runs.{those, before, behind, differing, all, starts, startsOf, row, rowEnd, lastEnd, runStrobe, strobesOf, runEvents}
 use Rattle.runs.specs.Walk.{walk, step-on, step-round, before-behind, behind-inside, walk-all}
 
 -- A strobe that is low rises.
@@ -37,6 +38,11 @@ module _ (n : ℕ) (d : ℕ → Bool) (w : ℕ → ℕ) where
   abbrev pub goes : ℕ → ℕ → Bool → List Event
   goes zero i low = risesIf low
   goes (suc m) i low = cellEvents low (d i) i (w i) ++ goes m (behind n i) (d i)
+
+-- The cell behind the last that differs among m from cell i on around the ring; e where none does.
+abbrev pub goesEnd : ℕ → (ℕ → Bool) → ℕ → ℕ → ℕ → ℕ
+goesEnd n d zero i e = e
+goesEnd n d (suc m) i e = goesEnd n d m (behind n i) (whether (d i) (behind n i) e)
 
 -- Where writing may begin: a cell of the ring before which no run starts, and at which one starts if it differs.
 pub record Front (n : ℕ) (d : ℕ → Bool) (f : ℕ) : Type 0 where
@@ -111,11 +117,17 @@ module _ (n : ℕ) (d : ℕ → Bool) where
     Over : ℕ → Type 0
     Over e = (e ≡ 0) ⊎ (d (before n f) ≡ true → d f ≡ false)
 
-    over : (e : ℕ) → Over e → d (before n f) ≡ true → row n d e f ≡ []
+    over : (e : ℕ) → Over e → d (before n f) ≡ true → (row n d e f ≡ []) × (rowEnd n d e f ≡ f)
     unfolding Over
-    over zero o p = refl
+    over zero o p = (refl, refl)
     over (suc e) (inl z) p = absurd (omega arith)
-    over (suc e) (inr h) p = rw (h p) refl
+    over (suc e) (inr h) p = rw (h p) (refl, refl)
+
+    over-here : (i e : ℕ) → Left zero i → d (before n i) ≡ true → Over e → (row n d (0 + e) i ≡ []) × (rowEnd n d (0 + e) i ≡ i)
+    unfolding walk
+    over-here i e l p o =
+        let z : 0 + e ≡ e = omega arith in
+        rw (z, l .ends) (over e o (ap (λ (j : ℕ). d (before n j)) (sym (l .ends)) ∙ p))
 
     -- What is written from a cell that stands m before the end: where a strobe is open, what is left of its run and then the runs ahead; where none is
     -- open, the runs ahead.
@@ -147,16 +159,10 @@ module _ (n : ℕ) (d : ℕ → Bool) where
         go true z false e = inr (λ r. absurd (true≢false (sym (front .opens z) ∙ start-if f false e z ∙ ap not r)))
 
     write-none : Written zero
-    unfolding walk
     write-none = record {
-      under = λ i e l h p o. rw (over-here i e l p o) refl;
+      under = λ i e l h p o. rw (over-here i e l p o .0) refl;
       between = λ i l h c. refl;
     }
-      where
-        over-here : (i e : ℕ) → Left zero i → d (before n i) ≡ true → Over e → row n d (0 + e) i ≡ []
-        over-here i e l p o =
-            let z : 0 + e ≡ e = omega arith in
-            rw (z, l .ends) (over e o (ap (λ (j : ℕ). d (before n j)) (sym (l .ends)) ∙ p))
 
     write-more : (m : ℕ) → Written m → Written (suc m)
     write-more m more = record { under = λ i e l h p o. opened i e l h p o (d i) refl; between = λ i l h c. shut i l h c (d i) refl }
@@ -197,6 +203,39 @@ module _ (n : ℕ) (d : ℕ → Bool) where
     written : (m : ℕ) → Written m
     written zero = write-none
     written (suc m) = write-more m (written m)
+
+    -- The cell behind the last that differs, from a cell that stands m before the end: behind the open run, or behind the last of those ahead.
+    record Ended (m : ℕ) : Type 0 where
+      under : (i e : ℕ) → Left m i → m < n → d (before n i) ≡ true → Over e → goesEnd n d m i i ≡ lastEnd n d (rowEnd n d (m + e) i) (ahead m i)
+      between : (i x : ℕ) → Left m i → m ≤ n → (d i ≡ true → starts n d i ≡ true) → goesEnd n d m i x ≡ lastEnd n d x (ahead m i)
+
+    end-none : Ended zero
+    end-none = record { under = λ i e l h p o. sym (over-here i e l p o .1); between = λ i x l h c. refl }
+
+    end-more : (m : ℕ) → Ended m → Ended (suc m)
+    end-more m more = record { under = λ i e l h p o. opened i e l h p o (d i) refl; between = λ i x l h c. shut i x l h c (d i) refl }
+      where
+        opened : (i e : ℕ) → Left (suc m) i → suc m < n → d (before n i) ≡ true → Over e → (b : Bool) → d i ≡ b
+            → goesEnd n d (suc m) i i ≡ lastEnd n d (rowEnd n d (suc m + e) i) (ahead (suc m) i)
+        opened i e l h p o true q =
+            let z : suc m + e ≡ suc (m + e) = omega arith in
+            rw (z, no-start m i l h p, q) (more .under (behind n i) e (next-left m i l) (omega arith) (ap d (before-behind n i (l .inside)) ∙ q) o)
+        opened i e l h p o false q =
+            let z : suc m + e ≡ suc (m + e) = omega arith in
+            rw (z, no-start m i l h p, q) (more .between (behind n i) i (next-left m i l) (omega arith) (behind-equal i (l .inside) q))
+
+        shut : (i x : ℕ) → Left (suc m) i → suc m ≤ n → (d i ≡ true → starts n d i ≡ true) → (b : Bool) → d i ≡ b
+            → goesEnd n d (suc m) i x ≡ lastEnd n d x (ahead (suc m) i)
+        shut i x l h c true q =
+            let z : n ≡ suc (m + (n - suc m)) = omega arith in
+            let r = more .under (behind n i) (n - suc m) (next-left m i l) (omega arith) (ap d (before-behind n i (l .inside)) ∙ q) (comes-over m i l h q (c q)) in
+            let e : rowEnd n d n i ≡ rowEnd n d (m + (n - suc m)) (behind n i) = ap (λ (k : ℕ). rowEnd n d k i) z ∙ rw q refl in
+            rw (c q, q) (r ∙ ap (λ (k : ℕ). lastEnd n d k (ahead m (behind n i))) (sym e))
+        shut i x l h c false q = rw (starts-not i q, q) (more .between (behind n i) x (next-left m i l) (omega arith) (behind-equal i (l .inside) q))
+
+    end : (m : ℕ) → Ended m
+    end zero = end-none
+    end (suc m) = end-more m (end m)
 
     -- If all differ, the front is 00H.
     front-first : all n d ≡ true → f ≡ 0
@@ -286,3 +325,7 @@ module _ (n : ℕ) (d : ℕ → Bool) (w : ℕ → ℕ) (f : ℕ) (front : Front
   goes-runs =
       written n d w f front n .between f (once-around n d w f front) (omega arith) (front .opens)
       ∙ ap (strobesOf n d w) starts-ahead
+
+  -- Once around from the front, the last cell that differs is the last of the last run.
+  pub goes-ends : (e : ℕ) → goesEnd n d n f e ≡ lastEnd n d e (startsOf n d)
+  goes-ends e = end n d w f front n .between f e (once-around n d w f front) (omega arith) (front .opens) ∙ ap (lastEnd n d e) starts-ahead

@@ -58,6 +58,11 @@ module _ (n : ℕ) (d : ℕ → Bool) where
   abbrev pub runEnd : ℕ → ℕ
   runEnd i = rowEnd n i
 
+  -- The cell behind the last of the runs that start at these cells; e where there is none.
+  abbrev pub lastEnd : ℕ → List ℕ → ℕ
+  lastEnd e [] = e
+  lastEnd e (i ∷ is) = lastEnd (runEnd i) is
+
   module _ (w : ℕ → ℕ) where
     -- Each run in its own strobe, behind its address.
     abbrev pub runStrobe : ℕ → List Event

@@ -3,15 +3,17 @@
 use Prim.Native.Nat.{ℕ, zero, suc, _+_, _-_, _<_, _≤_}
 use native.Mathlib.Omega.{arith}
 use mathlib.Core.Path.{_≡_, refl, sym, ap, _∙_}
-use mathlib.Core.Bool.{Bool, false}
+use mathlib.Core.Bool.{Bool, true, false}
 use mathlib.Core.List.{List, [], _∷_, _++_, append-assoc}
 use lib.ListN.{length, length-append, set}
 use lib.Seq.{sets, length-sets}
+use Rattle.rules.specs.Choice.{whether}
 use Rattle.writing.specs.Sets.{sets-append}
 use Rattle.terms.specs.declared.Event.{Event}
 use Rattle.terms.specs.Event.{recording, recording-append}
-use Rattle.runs.specs.Runs.{behind, runEvents}
-use Rattle.runs.specs.Linear.{risesIf, cellEvents, goes, goes-runs}
+use Rattle.runs.specs.Runs.{behind, startsOf, lastEnd, runEvents}
+use Rattle.runs.specs.Walk.{behind-inside}
+use Rattle.runs.specs.Linear.{risesIf, cellEvents, goes, goes-runs, goesEnd, goes-ends}
 use Rattle.runs.specs.Front.{frontOf, front-is}
 
 pub record SoFar (n : ℕ) (d : ℕ → Bool) (w : ℕ → ℕ) (first : List ℕ) (at : ℕ) (out : List ℕ) (to : ℕ) (low : Bool) (i left : ℕ) : Type 0 where
@@ -84,12 +86,29 @@ module _ (n : ℕ) (d : ℕ → Bool) (w : ℕ → ℕ) (first : List ℕ) (at :
       let e : length out ≡ length first = ap length (s .wrote) ∙ simp length-sets in
       omega (arith, s .comes)
 
-  pub ended : (out next : List ℕ) (to then : ℕ) (low : Bool) (i : ℕ) → SoFar n d w first at out to low i 0
-      → then ≡ to + length (recording (risesIf low)) → next ≡ sets out to (recording (risesIf low))
-      → (then ≡ at + length (recording (runEvents n d w))) × (next ≡ sets first at (recording (runEvents n d w)))
-  ended out next to then low i s p q =
-      let a = ap (λ (es : List Event). length (recording es)) (s .ahead) in
-      let b = longer (s .passed) (risesIf low) in (
-        omega (arith, s .comes),
-        written-behind first out next at to (s .passed) (risesIf low) (s .wrote) (s .comes) q ∙ ap (λ (es : List Event). sets first at (recording es)) (s .ahead),
-      )
+  pub ended : (out next : List ℕ) (to : ℕ) (low : Bool) (i : ℕ) → SoFar n d w first at out to low i 0 → next ≡ sets out to (recording (risesIf low))
+      → next ≡ sets first at (recording (runEvents n d w))
+  ended out next to low i s q =
+      written-behind first out next at to (s .passed) (risesIf low) (s .wrote) (s .comes) q ∙ ap (λ (es : List Event). sets first at (recording es)) (s .ahead)
+
+-- The cell behind the last that differed so far: with those to come it is the cell behind the last run.
+pub record EndSoFar (n : ℕ) (d : ℕ → Bool) (end i left : ℕ) : Type 0 where
+  pub inside : end < n
+  pub ahead : goesEnd n d left i end ≡ lastEnd n d 0 (startsOf n d)
+
+module _ (n : ℕ) (d : ℕ → Bool) where
+  pub end-begun : 0 < n → EndSoFar n d 0 (frontOf n d) n
+  end-begun h = record { inside = h; ahead = goes-ends n d (λ i. 0) (frontOf n d) (front-is n d h) 0 }
+
+  pub end-more : (end i left : ℕ) → i < n → EndSoFar n d end i left → 0 < left → EndSoFar n d (whether (d i) (behind n i) end) (behind n i) (left - 1)
+  end-more end i left g s h = go left h s
+    where
+      inside : (b : Bool) → end < n → whether b (behind n i) end < n
+      inside true l = behind-inside n i g
+      inside false l = l
+
+      go : (m : ℕ) → 0 < m → EndSoFar n d end i m → EndSoFar n d (whether (d i) (behind n i) end) (behind n i) (m - 1)
+      go zero h s = absurd (omega arith)
+      go (suc m) h s =
+          let z : suc m - 1 ≡ m = omega arith in
+          rw z (record { inside = inside (d i) (s .inside); ahead = s .ahead })

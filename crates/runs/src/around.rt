@@ -2,18 +2,19 @@
 use strobes::byte_in;
 use strobes::put;
 use survey::differs;
+use survey::last_end;
 use terms::Address;
 ghost use mathlib.Core.Path.{_≡_};
 ghost use Prim.Native.Nat.{_+_, _≤_, _<_};
 ghost use lib.ListN.{length};
 ghost use lib.Seq.{sets};
 ghost use Rattle.terms.specs.Event.{recording};
-ghost use Rattle.runs.specs.Runs.{behind, runEvents, wanted as wantedIn};
+ghost use Rattle.runs.specs.Runs.{behind, startsOf, lastEnd, runEvents, wanted as wantedIn};
 ghost use Rattle.runs.specs.Linear.{cellEvents, risesIf};
 ghost use Rattle.runs.specs.Front.{frontOf};
 ghost use Rattle.runs.specs.Survey.{differ};
 
-// The runs of the first n cells, at a place; the place behind them.
+// The runs of the first n cells, at a place; the cell behind the last of them, and 00H where there is none.
 pub fn write_runs(
     out: &mut [u8],
     at: usize,
@@ -21,15 +22,16 @@ pub fn write_runs(
     wanted: &[u8],
     n: usize,
     front: usize,
-) -> usize
+) -> Address
     requires { ⌜ (0 < n) × (n ≤ 64) × (n ≤ length (now codes)) × (n ≤ length (now wanted))
         × (front ≡ frontOf n (differ (now codes) (now wanted)))
         × (at + length (recording (runEvents n (differ (now codes) (now wanted)) (wantedIn (now wanted)))) ≤ length (now out)) ⌝ }
-    ensures { λ r. ⌜ (r ≡ at + length (recording (runEvents n (differ (now (codes .entry)) (now (wanted .entry))) (wantedIn (now (wanted .entry))))))
+    ensures { λ r. ⌜ (r .0 ≡ lastEnd n (differ (now (codes .entry)) (now (wanted .entry))) 0 (startsOf n (differ (now (codes .entry)) (now (wanted .entry)))))
         × (now (out .exit) ≡ sets (now (out .entry)) at (recording (runEvents n (differ (now (codes .entry)) (now (wanted .entry))) (wantedIn (now (wanted .entry)))))) ⌝ }
 {
     let mut to = at;
     let mut low = false;
+    let mut end = 0;
     let mut i = front;
     let mut left = n;
     while 0 < left {
@@ -37,9 +39,11 @@ pub fn write_runs(
         to = write_cell(out, to, low, here, Address(i as u8), wanted[i]);
         low = here;
         i = next(i, n);
+        end = last_end(here, i, end);
         left -= 1;
     }
-    rise(out, to, low)
+    rise(out, to, low);
+    Address(end as u8)
 }
 
 // What is written at a cell, by whether the strobe is low, and whether the cell differs; the place behind it.

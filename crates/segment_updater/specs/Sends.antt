@@ -1,6 +1,6 @@
 -- What `send` answers, for a ring of n cells, and why the sum of its pieces is the whole. The argument: the 40H strobe, if it is sent, stands at the front,
 -- and the runs behind it; their lengths are told by what was counted.
-use Prim.Native.Nat.{ℕ, _+_, _*_, _<_, _≤_}
+use Prim.Native.Nat.{ℕ, zero, suc, _+_, _*_, _<_, _≤_}
 use native.Mathlib.Omega.{arith}
 use mathlib.Core.Path.{_≡_, refl, sym, ap, _∙_}
 use mathlib.Core.Bool.{Bool, true, false, not, _&&_}
@@ -11,15 +11,18 @@ use lib.Dec.{eqb}
 use Rattle.rules.specs.Choice.{whether}
 use Rattle.rules.specs.Where.{Where}
 use Rattle.writing.specs.Sets.{sets-append}
+use Rattle.terms.specs.declared.Address.{Address}
 use Rattle.terms.specs.Event.{recording, recording-append, strobe}
 use Rattle.survey.specs.declared.Survey.{Survey}
-use Rattle.runs.specs.Runs.{wanted, differing, starts, startsOf, runEvents}
+use Rattle.runs.specs.Runs.{wanted, differing, starts, startsOf, lastEnd, runEvents}
 use Rattle.runs.specs.Linear.{those-most}
 use Rattle.runs.specs.Survey.{Surveyed}
 use Rattle.runs.specs.Count.{run-length}
 use Rattle.updating.specs.declared.Updated.{Updated}
 use Rattle.updating.specs.Update.{needs40, settingEvents, sentEvents, sentBytes}
 use Rattle.updating.specs.Answer.{RefusedBy, Sent}
+use Rattle.segment_updater.specs.declared.Behind.{Behind}
+use Rattle.segment_updater.specs.declared.Behind.the-variants.{Cell, NothingSent}
 
 -- Number 10 exactly where the output is shorter than the stream.
 abbrev pub Sends : ℕ → (ℕ → Bool) → Bool → List ℕ → List ℕ → Updated → List ℕ → Type 0
@@ -27,6 +30,29 @@ Sends n d set w out r after =
     Where (length (recording (sentEvents n d set (wanted w))) ≤ length out)
     (Sent (recording (sentEvents n d set (wanted w))) (sentBytes n d set) out r after)
     (RefusedBy 10 out r after)
+
+-- The cell behind the last run, of an update that is answered by the number; where that is refused, or nothing differs, nothing was sent.
+abbrev pub behindOf : ℕ → (ℕ → Bool) → ℕ → Behind
+behindOf n d zero = whether (eqb (length (differing n d)) 0) NothingSent (Cell (record { 0 = lastEnd n d 0 (startsOf n d) }))
+behindOf n d (suc m) = NothingSent
+
+-- A cell is named only where the update was sent and something differs, and it is the one behind the last run; where none is named, nothing differs.
+module _ (n : ℕ) (d : ℕ → Bool) where
+  pub sent-some : (m : ℕ) (cell : Address) → behindOf n d m ≡ Cell cell → (m ≡ 0) × (eqb (length (differing n d)) 0 ≡ false) × (cell .0 ≡ lastEnd n d 0 (startsOf n d))
+  sent-some zero cell e = let (some, end) = go (eqb (length (differing n d)) 0) refl e in (refl, some, end)
+    where
+      go : (b : Bool) → eqb (length (differing n d)) 0 ≡ b → whether b NothingSent (Cell (record { 0 = lastEnd n d 0 (startsOf n d) })) ≡ Cell cell
+          → (eqb (length (differing n d)) 0 ≡ false) × (cell .0 ≡ lastEnd n d 0 (startsOf n d))
+      go true z e = let x : _≡_ {A = ℕ} 0 1 = cc in absurd (omega arith)
+      go false z e = let x : cell .0 ≡ lastEnd n d 0 (startsOf n d) = cc in (z, x)
+  sent-some (suc m) cell e = let x : _≡_ {A = ℕ} 0 1 = cc in absurd (omega arith)
+
+  pub sent-none : behindOf n d 0 ≡ NothingSent → eqb (length (differing n d)) 0 ≡ true
+  sent-none e = go (eqb (length (differing n d)) 0) e
+    where
+      go : (b : Bool) → whether b NothingSent (Cell (record { 0 = lastEnd n d 0 (startsOf n d) })) ≡ NothingSent → b ≡ true
+      go true e = refl
+      go false e = let x : _≡_ {A = ℕ} 0 1 = cc in absurd (omega arith)
 
 module _ (n : ℕ) (d : ℕ → Bool) (set : Bool) (w : List ℕ) (some : 0 < n) where
   setting-length : length (recording (settingEvents n d set)) ≡ 4 * whether (needs40 n d set) 1 0
@@ -72,6 +98,9 @@ module _ (n : ℕ) (d : ℕ → Bool) (set : Bool) (w : List ℕ) (some : 0 < n)
 
     pub told-count : cells + runs + first ≡ sentBytes n d set
     told-count = omega (arith, t .cells-are, t .runs-are, t .first-is)
+
+    pub told-behind : (end : Address) (b : Behind) → end .0 ≡ lastEnd n d 0 (startsOf n d) → b ≡ whether (eqb cells 0) NothingSent (Cell end) → b ≡ behindOf n d 0
+    told-behind end b e f = f ∙ (λ i. whether (eqb (t .cells-are i) 0) NothingSent (Cell (record { 0 = e i })))
 
     -- There is room for the setting, and behind it for the runs.
     pub room-for : (out : List ℕ) → 2 * cells + 4 * (runs + first) ≤ length out

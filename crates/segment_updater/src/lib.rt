@@ -7,6 +7,7 @@ use segment_knowledge::INCREMENT;
 use segment_knowledge::WRITE_DISPLAY;
 use standing::is_known;
 use strobes::write_single;
+use terms::Address;
 use terms::Place;
 use updating::Updated;
 ghost use mathlib.Core.Path.{_≡_};
@@ -22,7 +23,22 @@ ghost use mathlib.Core.List.{[], _∷_};
 ghost use Rattle.segment_knowledge.specs.View.{cview};
 ghost use Rattle.runs.specs.Survey.{differ};
 ghost use Rattle.updating.specs.Update.{isSet};
-ghost use Rattle.segment_updater.specs.Sends.{Sends};
+ghost use Rattle.updating.specs.Answer.{number};
+ghost use Rattle.segment_updater.specs.declared.Behind.the-variants.{Cell, NothingSent};
+ghost use Rattle.segment_updater.specs.Sends.{Sends, behindOf};
+
+// The cell behind the last run that was sent, which is where the address stands then.
+pub enum Behind {
+    Cell(Address),
+    // Refused, or nothing to change.
+    NothingSent,
+}
+
+// What an update came to, and where it ended.
+pub struct Sending {
+    pub answer: Updated,
+    pub behind: Behind,
+}
 
 // The data setting is known to be write display and increment.
 pub fn is_set(control: Control) -> bool
@@ -38,9 +54,10 @@ pub fn is_set(control: Control) -> bool
 }
 
 // Of the first n cells. A byte that goes over the wire is a record of two bytes, and each strobe has two more, its fall and its rise.
-pub fn send(n: usize, codes: &[u16], set: bool, wanted: &[u8], out: &mut [u8]) -> Updated
+pub fn send(n: usize, codes: &[u16], set: bool, wanted: &[u8], out: &mut [u8]) -> Sending
     requires { ⌜ (0 < n) × (n ≤ 64) × (n ≤ length (now codes)) × (n ≤ length (now wanted)) ⌝ }
-    ensures { λ r. ⌜ Sends n (differ (now (codes .entry)) (now (wanted .entry))) set (now (wanted .entry)) (now (out .entry)) r (now (out .exit)) ⌝ }
+    ensures { λ r. ⌜ Sends n (differ (now (codes .entry)) (now (wanted .entry))) set (now (wanted .entry)) (now (out .entry)) (r .answer) (now (out .exit))
+        × (r .behind ≡ behindOf n (differ (now (codes .entry)) (now (wanted .entry))) (number (r .answer))) ⌝ }
 {
     let found = look_over(codes, wanted, n);
     let cells = found.cells;
@@ -49,11 +66,28 @@ pub fn send(n: usize, codes: &[u16], set: bool, wanted: &[u8], out: &mut [u8]) -
     let first = one_if(setting);
     let size = 2 * cells + 4 * (runs + first);
     if out.len() < size {
-        return Updated::TooSmall(Place(0));
+        return Sending {
+            answer: Updated::TooSmall(Place(0)),
+            behind: Behind::NothingSent,
+        };
     }
     let from = write_setting(out, setting);
-    write_runs(out, from, codes, wanted, n, found.front);
-    Updated::Done(Place(size), cells + runs + first)
+    let end = write_runs(out, from, codes, wanted, n, found.front);
+    Sending {
+        answer: Updated::Done(Place(size), cells + runs + first),
+        behind: behind_last(cells, end),
+    }
+}
+
+// Where no cell differs there is no run.
+fn behind_last(cells: usize, end: Address) -> Behind
+    ensures { λ r. ⌜ r ≡ whether (eqb cells 0) NothingSent (Cell end) ⌝ }
+{
+    if cells == 0 {
+        Behind::NothingSent
+    } else {
+        Behind::Cell(end)
+    }
 }
 
 // 40H goes first where the setting is not known, unless nothing differs.

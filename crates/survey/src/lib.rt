@@ -44,6 +44,13 @@ pub fn leads(here: bool, lead: usize, i: usize) -> bool
     if lead == i { here } else { false }
 }
 
+// The cell behind the last that differed: the one behind this cell where it differs, and else as it was.
+pub fn last_end(here: bool, behind: usize, end: usize) -> usize
+    ensures { λ r. ⌜ r ≡ whether here behind end ⌝ }
+{
+    if here { behind } else { end }
+}
+
 // Where all differ they are one run, from 00H; else a run that goes round ends with those that lead.
 pub fn found(n: usize, cells: usize, runs: usize, lead: usize, last: bool) -> Survey
     ensures { λ r. ⌜ r ≡ whether (eqb cells n) (record { cells = cells; runs = 1; front = 0 }) (record { cells = cells; runs = runs; front = whether last lead 0 }) ⌝ }

@@ -26,6 +26,7 @@ use Rattle.runs.specs.Runs.{wanted, runEvents}
 use Rattle.runs.specs.Count.{bytesIn, strobe-bytes, run-bytes}
 use Rattle.updating.specs.Update.{differs, differing, starts, sends40, updateEvents, wireBytes}
 use Rattle.updating.specs.Updated.{updated, knownAfter}
+use Rattle.updating.specs.Refresh.{knownFor}
 use Rattle.updated.specs.Writes as Writes
 use Rattle.updated.specs.Leads as Leads
 use Rattle.updated.specs.Known as Known
@@ -75,16 +76,11 @@ updateFor Pt6302 k w = []
 updateFor Pt6312 k w = updateEvents (sizes OfFamily.Pt6312) k w
 updateFor Pt6315 k w = updateEvents (sizes OfFamily.Pt6315) k w
 
--- The chip that was c, updated, and what is known after the update.
+-- The chip that was c, updated. What is known then is `updating/Refresh.knownFor`.
 abbrev pub updatedBy : (p : Part) → (Fact p → Standing) → List ℕ → (Fact p → ℕ) → Fact p → ℕ
 updatedBy Pt6302 k w c = c
 updatedBy Pt6312 k w c = updated (sizes OfFamily.Pt6312) k w c
 updatedBy Pt6315 k w c = updated (sizes OfFamily.Pt6315) k w c
-
-abbrev pub knownFor : (p : Part) → (Fact p → Standing) → List ℕ → Fact p → Standing
-knownFor Pt6302 k w = k
-knownFor Pt6312 k w = knownAfter (sizes OfFamily.Pt6312) k w
-knownFor Pt6315 k w = knownAfter (sizes OfFamily.Pt6315) k w
 
 -- One of the events in turn writes cell i.
 abbrev pub WrittenOn : (p : Part) → List Event → (Fact p → ℕ) → ℕ → Type 0

@@ -1,5 +1,5 @@
 -- Two answers of an update that meet its promise are equal. The argument: number, place and count fix the answer, the output is told byte for byte, and
--- what is refused or sent goes by the same conditions for both.
+-- what is refused or sent goes by the same conditions for both. What is known then is told fact by fact, or as handed in.
 use Prim.Native.Nat.{ℕ, zero, suc}
 use mathlib.Core.Path.{_≡_, refl, sym, _∙_}
 use mathlib.Core.List.{List}
@@ -12,9 +12,12 @@ use Rattle.segment.specs.declared.chip.Family.{Family}
 use Rattle.segment.specs.declared.chip.Family.the-variants as OfFamily
 use Rattle.segment_knowledge.specs.declared.knowledge.Knowledge.{Knowledge}
 use Rattle.panel.specs.declared.knowledge.Panel.{Panel}
+use Rattle.panel.specs.Unique.{Shaped, same-panel}
+use Rattle.updating.specs.declared.Refreshed.{Refreshed}
 use Rattle.updating.specs.declared.Updated.{Updated}
 use Rattle.updating.specs.declared.Updated.the-variants.{Done, NoPart, OutOfRange, TooSmall}
 use Rattle.updating.specs.Answer.{number, place, count, RefusedBy, Sent, UpdatesSegment, Updates}
+use Rattle.updating.specs.Refresh.{KnownThen, Refreshes}
 
 -- The answer with a number, a place and a count, and that every answer is the one with its own.
 back : ℕ → Place → ℕ → Updated
@@ -52,3 +55,17 @@ one-update (Is Pt6302) k w out r q after after′ h g = one-refusal out r q afte
 one-update (Is Pt6312) k w out r q after after′ h g = one-segment out r q after after′ OfFamily.Pt6312 (k .segment) w h g
 one-update (Is Pt6315) k w out r q after after′ h g = one-segment out r q after after′ OfFamily.Pt6315 (k .segment) w h g
 one-update (Refused at) k w out r q after after′ h g = one-refusal out r q after after′ 1 h g
+
+-- What is known then is one.
+one-known : (part : PartRead) (n : ℕ) (k : Panel) (w : List ℕ) (r q : Panel) → Shaped r → Shaped q → KnownThen part n k w r → KnownThen part n k w q → r ≡ q
+one-known (Is p) zero k w r q sr sq h g = same-panel p k r q sr sq (λ f. h .0 f ∙ sym (g .0 f)) (h .1) (g .1)
+one-known (Is p) (suc n) k w r q sr sq h g = h ∙ sym g
+one-known (Refused at) n k w r q sr sq h g = h ∙ sym g
+
+-- Two answers of one update with what is known then are one, and so are the outputs.
+pub one-refreshed : (part : PartRead) (k : Panel) (w out : List ℕ) (r q : Refreshed) (after after′ : List ℕ) → Shaped (r .panel) → Shaped (q .panel)
+    → Refreshes part k w out r after → Refreshes part k w out q after′ → (r ≡ q) × (after ≡ after′)
+one-refreshed part k w out r q after after′ sr sq (h, x) (g, y) =
+    let (answers, outputs) = one-update part k w out (r .answer) (q .answer) after after′ h g in
+    let panels = one-known part (number (q .answer)) k w (r .panel) (q .panel) sr sq (rw answers at x) y in
+    (λ i. record { answer = answers i; panel = panels i }, outputs)

@@ -1,4 +1,5 @@
 // What an update comes to. What it sends, and what that does, stands in specs/.
+use panel::Panel;
 use terms::Place;
 
 pub enum Updated {
@@ -10,4 +11,10 @@ pub enum Updated {
     OutOfRange(Place),
     // The output is too small.
     TooSmall(Place),
+}
+
+// What an update came to, and what is known when its bytes have gone out: as it was handed in, where it was refused.
+pub struct Refreshed {
+    pub answer: Updated,
+    pub panel: Panel,
 }
