@@ -1,3 +1,0 @@
-pub mod Refresh
-pub mod Tried
-pub mod Unique
