@@ -5,7 +5,7 @@
 //     @0046   the output has 0046H bytes; without it, and at most, it has 112
 //
 // What is written is the update's answer, with how many bytes go over the wire; the bytes; how many bytes behind them are as before, which were A5; and of
-// a stream that was sent, what its replay answers and what is known then, as `recordings` has it.
+// a stream that was sent, what its replay answers, and what `refresh` says is known then, as `recordings` has it.
 use crate::in_words::answered;
 use crate::in_words::refused;
 use example_panels::Example;
@@ -17,7 +17,7 @@ use example_text::text;
 use panel::Panel;
 use terms::Place;
 use updater::Updated;
-use updater::update;
+use updater::refresh;
 use writing::words;
 ghost use Prim.Native.Nat.{_≤_};
 
@@ -44,8 +44,13 @@ fn room_of(example: Example) -> usize
 }
 
 fn updates(part: u8, panel: Panel, wanted: [u8; 36], out: &mut [u8]) {
-    match update(part, panel, wanted, out) {
-        Updated::Done(place, count) => sent(part, panel, place.0, count, out),
+    let refreshed = refresh(part, panel, wanted, out);
+    let answer = refreshed.answer;
+    match answer {
+        Updated::Done(place, count) => {
+            sent(part, panel, place.0, count, out);
+            show_known(part, refreshed.panel, false, false);
+        }
         Updated::NoPart(place) => refuses(1, place, out),
         Updated::OutOfRange(place) => refuses(2, place, out),
         Updated::TooSmall(place) => refuses(10, place, out),
@@ -58,7 +63,6 @@ fn sent(part: u8, panel: Panel, length: usize, count: usize, out: &[u8]) {
     let replayed = replay::replay(part, panel, front(out, length), Place(0));
     let answer = replayed.answer;
     answered(b"\n    replay ", answer);
-    show_known(part, replayed.panel, false, false);
 }
 
 fn refuses(n: usize, place: Place, out: &[u8]) {
