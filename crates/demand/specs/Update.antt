@@ -1,6 +1,6 @@
 -- The bytes of an update, from `update` to a chip and from `update` to `replay` (paper 02, M-102). The argument: where `update` answers number 0, what it wrote
 -- in front is the recording of the update's events, which is read back as these events (`updated/ByPart`); they lead every chip that fits to the updated one,
--- and the knowledge to what is known then.
+-- and the knowledge to what is known then, which is what `refresh` gives (M-110).
 use Prim.Native.Nat.{ℕ, _+_, _<_, _≤_}
 use native.Mathlib.Omega.{arith}
 use mathlib.Core.Path.{_≡_, refl, sym, ap, _∙_, subst, subst⁻¹}
