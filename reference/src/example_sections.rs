@@ -2,7 +2,7 @@
 //! it comes to.
 
 use crate::example_packets::Example;
-use crate::example_recordings;
+use crate::{example_recordings, example_updates};
 
 const NAMES: [&str; 5] = ["events", "recordings", "packets", "updates", "temperatures"];
 
@@ -14,11 +14,21 @@ pub fn lines_of<'a>(name: &str, text: &'a str) -> Vec<&'a str> {
 
 /// The lines of the section `recordings`, and behind each what must be written.
 pub fn recordings_written(lines: &[&str]) -> Vec<String> {
+    each_written(lines, example_recordings::written)
+}
+
+/// The same of the section `updates`.
+pub fn updates_written(lines: &[&str]) -> Vec<String> {
+    each_written(lines, |line| example_updates::Example::read(line).rows())
+}
+
+/// Where no line goes by another.
+fn each_written(lines: &[&str], behind: fn(&str) -> Vec<String>) -> Vec<String> {
     let mut written = Vec::new();
     for line in lines {
         written.push(line.to_string());
         if !is_remark(line) {
-            written.extend(example_recordings::written(line));
+            written.extend(behind(line));
         }
     }
     written

@@ -6,6 +6,7 @@
 
 use crate::answer::Answer;
 use crate::example_key_panels::{everything, panel, tell, MOST_CELLS, USUAL_CELL};
+use crate::example_known::known;
 use crate::example_lines::{bytes_in_words, Line, Told};
 use crate::knowledge::{Knowledge, PT6312, PT6315};
 use crate::show::answer_in_words;
@@ -75,5 +76,27 @@ impl Example {
         let stream = bytes_in_words(&update.stream);
         let (count, behind) = (update.count, self.room - update.stream.len());
         format!("    update {outcome}, wire {count}:{stream}, behind {behind} as before")
+    }
+
+    /// All rows that must stand behind the example: the update, and of one that is sent what a replay of its stream
+    /// answers, and what is known then.
+    pub fn rows(&self) -> Vec<String> {
+        let mut rows = vec![self.written()];
+        if let Some((answer, knowledge)) = self.replayed() {
+            rows.push(format!("    replay {}", answer_in_words(answer)));
+            rows.push(known(&knowledge));
+        }
+        rows
+    }
+
+    /// The replay of the stream, where it is sent, from what is known.
+    fn replayed(&self) -> Option<(Answer, Knowledge)> {
+        let update = self.update();
+        if update.answer.number != Answer::DONE {
+            return None;
+        }
+        let mut knowledge = self.knowledge()?;
+        let answer = knowledge.replay(&update.stream, 0);
+        Some((answer, knowledge))
     }
 }

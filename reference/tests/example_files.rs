@@ -1,7 +1,7 @@
-//! The run examples of `panel_examples`, as far as they are recordings and packets: every line of the file `stdin` must
+//! The run examples of `panel_examples`, as far as they are recordings, packets and updates: every line of the file `stdin` must
 //! stand in the file `stdout`, and behind it what this reading comes to.
 
-use reference::example_sections::{lines_of, packets_written, recordings_written};
+use reference::example_sections::{lines_of, packets_written, recordings_written, updates_written};
 use std::fs;
 
 fn section(name: &str, file: &str) -> Vec<String> {
@@ -39,4 +39,9 @@ fn recordings_come_to_what_is_written_behind_them() {
 #[test]
 fn packets_come_to_what_is_written_behind_them() {
     assert_written("packets", packets_written);
+}
+
+#[test]
+fn updates_come_to_what_is_written_behind_them() {
+    assert_written("updates", updates_written);
 }

@@ -1,6 +1,7 @@
-//! Compares the updates that a program makes with those made here.
+//! Compares the updates that a program makes, and what it says is known behind them, with those made here and with their
+//! replay.
 
-use crate::sections::Section;
+use crate::sections::{are_all, Section};
 use reference::answer::Answer;
 use reference::example_updates::Example;
 use reference::knowledge::{Knowledge, PT6315};
@@ -11,18 +12,9 @@ use std::io;
 const SECTION: Section = Section {
     name: "updates",
     trial: trial_update,
-    expected: |line| vec![Example::read(line).written()],
-    is_good,
+    expected: |line| vec![Example::read(line).rows().join("\n")],
+    is_good: are_all,
 };
-
-/// Of all that the program writes behind a line, only the row of the update begins so.
-const UPDATE: &str = "    update ";
-
-/// The first row is the expected one, and it is the only one of an update.
-fn is_good(rows: &[String], expected: &str) -> bool {
-    let updates = rows.iter().filter(|row| row.starts_with(UPDATE));
-    rows.first().is_some_and(|row| row == expected) && updates.count() == 1
-}
 
 /// What came up, so that one sees that no rule was passed by.
 #[derive(Default)]
