@@ -21,18 +21,26 @@ use Rattle.replay.specs.declared.replays.Replayed.{Replayed}
 use Rattle.answers.specs.Answer as Replay
 use Rattle.replay.specs.Replay.{Replays}
 use Rattle.updating.specs.declared.Updated.{Updated}
+use Rattle.updating.specs.declared.Refreshed.{Refreshed}
 use Rattle.updating.specs.Answer as Update
+use Rattle.updating.specs.Refresh.{Refreshes}
 use Rattle.demand.specs.Strobes.{Recorded, recorded-done}
 use Rattle.demand.specs.Painting.{paint-only, paint-recorded}
 use Rattle.demand.specs.Update.{update-recorded}
 
--- A stream that `update` or `paint` wrote for the part byte b, from whatever they were handed: the bytes before the place of an answer with number 0. What
--- `refresh` writes is the update's. There are such streams for each part that the call serves: `Update.update-answers` and `Painting.paint-answers`.
+-- A stream that `update` or `paint` wrote for the part byte b, from whatever they were handed, with a picture's lists as long as the arrays of their types: the
+-- bytes before the place of an answer with number 0. There are such streams for each part that the call serves: `Update.update-answers` and
+-- `Painting.paint-answers`.
 pub data Written (b : ℕ) : List ℕ → Type 0 where
   by-update : (k : Panel) (w out : List ℕ) (r : Updated) (after : List ℕ) → Update.Updates (partOf b) k w out r after → Update.number r ≡ 0
       → Written b (take (Update.place r) after)
   by-paint : (pic : Picture) → Shaped pic → (out : List ℕ) (r : Painted) (after : List ℕ) → r ≡ Paint.answer b pic (length out) → after ≡ Paint.output b pic out
       → Paint.number r ≡ 0 → Written b (take (Paint.place r .0) after)
+
+-- What `refresh` wrote is such a stream, too.
+pub refresh-written : (b : ℕ) (k : Panel) (w out : List ℕ) (r : Refreshed) (after : List ℕ) → Refreshes (partOf b) k w out r after → Update.number (r .answer) ≡ 0
+    → Written b (take (Update.place (r .answer)) after)
+refresh-written b k w out r after met zero = by-update k w out (r .answer) after (met .0) zero
 
 written-recorded : (b : ℕ) (p : Part) → partOf b ≡ Is p → {l : List ℕ} → Written b l → (es : List Event) × Recorded p es l
 written-recorded b p named (by-update k w out r after met zero) = (_, update-recorded b p named k w out r after met zero)

@@ -1,6 +1,6 @@
--- Bytes that are the recording of strobes are accepted, whatever is known, if only it is in range. The argument: falls, bytes and rises are records of every part,
--- with any body, so the bytes are read back as these events, to their end (`repainted/Accepted`); and a replay refuses such a recording for nothing but its
--- length, its start or what is known.
+-- Bytes that are the recording of events which the part reads back are accepted from any knowledge in range. The argument: a replay refuses such a recording
+-- for nothing but its length, its start or what is known. The strobes of a painting and of an update are such events, since falls, bytes and rises are records
+-- of every part, with any body (`repainted/ByPart.painting-accepted`, `updated/ByPart.reads`).
 use Prim.Native.Nat.{ℕ, _≤_}
 use native.Mathlib.Omega.{arith}
 use mathlib.Core.Path.{_≡_, ap, subst, subst⁻¹}

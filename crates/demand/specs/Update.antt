@@ -193,20 +193,26 @@ module _ (b : ℕ) (p : Part) (named : partOf b ≡ Is p) (k : Panel) (w out : L
         holds-tests 8 _ (wanted w i) .back
         (λ j l. update-replays q again .2 (cellIn p x i j) ∙ spelt p x (knownOf p k) w i h j l)
 
--- The answer r of `refresh` and the output afterwards, where the update was sent; q is a replay of the bytes that it wrote.
+-- The answer r of `refresh` and the output afterwards, where the update was sent.
 module _ (b : ℕ) (p : Part) (named : partOf b ≡ Is p) (k : Panel) (w out : List ℕ) (r : Refreshed) (after : List ℕ) (met : Refreshes (partOf b) k w out r after)
-    (zero : number (r .answer) ≡ 0) (q : Replayed) (again : Replays (partOf b) k (take (place (r .answer)) after) 0 q) where
+    (zero : number (r .answer) ≡ 0) where
   learns : Learns p k w (r .panel)
   learns = subst (λ (n : ℕ). KnownThen (Is p) n k w (r .panel)) zero (subst (λ (x : PartRead). KnownThen x (number (r .answer)) k w (r .panel)) named (met .1))
 
-  -- What `refresh` says is known is what the replay of its bytes tells.
-  pub refresh-as-replayed : (f : Fact p) → knownOf p (q .panel) f ≡ knownOf p (r .panel) f
-  refresh-as-replayed f = update-replays b p named k w out (r .answer) after (met .0) zero q again .2 f ∙ sym (learns .0 f)
+  -- Every cell is then known to hold its wanted byte.
+  pub refresh-holds : (x : HasRing p) (i : ℕ) → i < cellsOf p → holds 8 (λ j. knownOf p (r .panel) (cellIn p x i j)) (wanted w i) ≡ true
+  refresh-holds x i h = holds-tests 8 _ (wanted w i) .back (λ j l. learns .0 (cellIn p x i j) ∙ spelt p x (knownOf p k) w i h j l)
 
-  -- And so, of panels whose rows are as long as their arrays, it is that panel.
-  pub refresh-is-replay : Shaped (q .panel) → Shaped (r .panel) → q .panel ≡ r .panel
-  refresh-is-replay sq sr =
-      same-panel p k (q .panel) (r .panel) sq sr refresh-as-replayed (update-replays b p named k w out (r .answer) after (met .0) zero q again .3) (learns .1)
+  -- For any replay q of the bytes that it wrote, from the panel that it was handed:
+  module _ (q : Replayed) (again : Replays (partOf b) k (take (place (r .answer)) after) 0 q) where
+    -- what `refresh` says is known is what the replay tells,
+    pub refresh-as-replayed : (f : Fact p) → knownOf p (q .panel) f ≡ knownOf p (r .panel) f
+    refresh-as-replayed f = update-replays b p named k w out (r .answer) after (met .0) zero q again .2 f ∙ sym (learns .0 f)
+
+    -- and so, of panels whose rows are as long as their arrays, it is that panel.
+    pub refresh-is-replay : Shaped (q .panel) → Shaped (r .panel) → q .panel ≡ r .panel
+    refresh-is-replay sq sr =
+        same-panel p k (q .panel) (r .panel) sq sr refresh-as-replayed (update-replays b p named k w out (r .answer) after (met .0) zero q again .3) (learns .1)
 
 -- What is memory is no setting, input or position.
 no-setting : Segment.setting ≡ Segment.memory → ⊥

@@ -326,6 +326,6 @@ module _ (n : ℕ) (d : ℕ → Bool) (w : ℕ → ℕ) (f : ℕ) (front : Front
       written n d w f front n .between f (once-around n d w f front) (omega arith) (front .opens)
       ∙ ap (strobesOf n d w) starts-ahead
 
-  -- Once around from the front, the last cell that differs is the last of the last run.
+  -- Once around from the front, the last cell that differs is the last of the last run, whatever the bytes are.
   pub goes-ends : (e : ℕ) → goesEnd n d n f e ≡ lastEnd n d e (startsOf n d)
   goes-ends e = end n d w f front n .between f e (once-around n d w f front) (omega arith) (front .opens) ∙ ap (lastEnd n d e) starts-ahead

@@ -36,7 +36,7 @@ abbrev pub behindOf : ℕ → (ℕ → Bool) → ℕ → Behind
 behindOf n d zero = whether (eqb (length (differing n d)) 0) NothingSent (Cell (record { 0 = lastEnd n d 0 (startsOf n d) }))
 behindOf n d (suc m) = NothingSent
 
--- A cell is named only where the update was sent and something differs, and it is the one behind the last run; where none is named, nothing differs.
+-- A cell is named only where the update was sent and something differs, and it is the one behind the last run; where it was sent and none is named, nothing differs.
 module _ (n : ℕ) (d : ℕ → Bool) where
   pub sent-some : (m : ℕ) (cell : Address) → behindOf n d m ≡ Cell cell → (m ≡ 0) × (eqb (length (differing n d)) 0 ≡ false) × (cell .0 ≡ lastEnd n d 0 (startsOf n d))
   sent-some zero cell e = let (some, end) = go (eqb (length (differing n d)) 0) refl e in (refl, some, end)

@@ -1,5 +1,5 @@
 // The writing of an update of PT6312 and PT6315: what is known of the cells, the wanted ones and a lent output become the recording that sends just the
-// cells that differ.
+// cells that differ, and where it ended.
 use runs::look_over;
 use runs::write_runs;
 use segment_knowledge::Control;

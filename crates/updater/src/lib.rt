@@ -26,7 +26,7 @@ pub fn update(part: u8, panel: Panel, wanted: [u8; 36], out: &mut [u8]) -> Updat
     refreshed.answer
 }
 
-// Writes the recording to the front of `out`, and gives what is known when it has gone out, which is what a replay of it would tell. A refused update writes
+// Writes the recording to the front of `out`, and gives what is known when it has gone out, which is what a replay of it from `panel` would tell. A refused update writes
 // nothing, and gives the panel as it was handed in. PT6312 uses the first 22 of the wanted cells.
 pub fn refresh(part: u8, panel: Panel, wanted: [u8; 36], out: &mut [u8]) -> Refreshed
     ensures { λ r. ⌜ Refreshes (partOf part) panel wanted (now (out .entry)) r (now (out .exit)) ⌝ }

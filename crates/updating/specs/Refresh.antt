@@ -1,6 +1,6 @@
 -- The whole answer of the update that also gives what is known when its bytes have gone out (paper 02, M-110: "take the branch out"): number, place, count and
--- output are the update's, always, and what is known then is what its events make of what was known, which is also what a replay of its bytes tells
--- (`demand/Update.refresh-as-replayed`).
+-- output are the update's, always, and what is known then is what its events make of what was known, which is also what a replay of its bytes from there
+-- tells (`demand/Update.refresh-as-replayed`).
 use Prim.Native.Nat.{ℕ, zero, suc}
 use mathlib.Core.Path.{_≡_}
 use mathlib.Core.List.{List}
@@ -33,9 +33,11 @@ abbrev pub ByNumber : ℕ → Panel → Panel → Type 0 → Type 0
 ByNumber zero k r P = P
 ByNumber (suc n) k r P = r ≡ k
 
+-- By what the part byte names; where it names no part, all is as handed in.
 abbrev pub KnownThen : PartRead → ℕ → Panel → List ℕ → Panel → Type 0
 KnownThen (Is p) n k w r = ByNumber n k r (Learns p k w r)
 KnownThen (Refused at) n k w r = r ≡ k
 
+-- The update's answer and output, and what is known then.
 abbrev pub Refreshes : PartRead → Panel → List ℕ → List ℕ → Refreshed → List ℕ → Type 0
 Refreshes part k w out r after = Updates part k w out (r .answer) after × KnownThen part (number (r .answer)) k w (r .panel)
