@@ -96,7 +96,7 @@ module _ (n : ℕ) (d : ℕ → Bool) where
   abbrev pub ahead : ℕ → ℕ → List ℕ
   ahead m i = thoseAhead n (starts n d) m i
 
-  module _ (w : ℕ → ℕ) (f : ℕ) (front : Front n d f) where
+  module _ (f : ℕ) (front : Front n d f) where
     -- Cell i stands m cells before the end, which is the front again; if all differ, the front is 00H.
     record Left (m i : ℕ) : Type 0 where
       inside : i < n
@@ -129,13 +129,6 @@ module _ (n : ℕ) (d : ℕ → Bool) where
         let z : 0 + e ≡ e = omega arith in
         rw (z, l .ends) (over e o (ap (λ (j : ℕ). d (before n j)) (sym (l .ends)) ∙ p))
 
-    -- What is written from a cell that stands m before the end: where a strobe is open, what is left of its run and then the runs ahead; where none is
-    -- open, the runs ahead.
-    record Written (m : ℕ) : Type 0 where
-      under : (i e : ℕ) → Left m i → m < n → d (before n i) ≡ true → Over e
-          → goes n d w m i true ≡ map ByteIn (map w (row n d (m + e) i)) ++ (Rises ∷ strobesOf n d w (ahead m i))
-      between : (i : ℕ) → Left m i → m ≤ n → (d i ≡ true → starts n d i ≡ true) → goes n d w m i false ≡ strobesOf n d w (ahead m i)
-
     -- Where a strobe is open, no run starts.
     no-start : (m i : ℕ) → Left (suc m) i → suc m < n → d (before n i) ≡ true → starts n d i ≡ false
     no-start m i l h p = go (d i) refl (all n d) refl
@@ -157,52 +150,6 @@ module _ (n : ℕ) (d : ℕ → Bool) where
             let first : i ≡ 0 = eqb-true i 0 (sym (start-if i true e p) ∙ q) in
             inl (omega arith)
         go true z false e = inr (λ r. absurd (true≢false (sym (front .opens z) ∙ start-if f false e z ∙ ap not r)))
-
-    write-none : Written zero
-    write-none = record {
-      under = λ i e l h p o. rw (over-here i e l p o .0) refl;
-      between = λ i l h c. refl;
-    }
-
-    write-more : (m : ℕ) → Written m → Written (suc m)
-    write-more m more = record { under = λ i e l h p o. opened i e l h p o (d i) refl; between = λ i l h c. shut i l h c (d i) refl }
-      where
-        opened : (i e : ℕ) → Left (suc m) i → suc m < n → d (before n i) ≡ true → Over e → (b : Bool) → d i ≡ b
-            → goes n d w (suc m) i true ≡ map ByteIn (map w (row n d (suc m + e) i)) ++ (Rises ∷ strobesOf n d w (ahead (suc m) i))
-        opened i e l h p o true q =
-            let z : suc m + e ≡ suc (m + e) = omega arith in
-            let r = more .under (behind n i) e (next-left m i l) (omega arith) (ap d (before-behind n i (l .inside)) ∙ q) o in
-            rw (z, no-start m i l h p, q) (ap (λ (x : List Event). ByteIn (w i) ∷ x) r)
-        opened i e l h p o false q =
-            let z : suc m + e ≡ suc (m + e) = omega arith in
-            let r = more .between (behind n i) (next-left m i l) (omega arith) (behind-equal i (l .inside) q) in
-            rw (z, no-start m i l h p, q) (ap (λ (x : List Event). Rises ∷ x) r)
-
-        shut : (i : ℕ) → Left (suc m) i → suc m ≤ n → (d i ≡ true → starts n d i ≡ true) → (b : Bool) → d i ≡ b
-            → goes n d w (suc m) i false ≡ strobesOf n d w (ahead (suc m) i)
-        shut i l h c true q =
-            let z : n ≡ suc (m + (n - suc m)) = omega arith in
-            let r = more .under (behind n i) (n - suc m) (next-left m i l) (omega arith) (ap d (before-behind n i (l .inside)) ∙ q) (comes-over m i l h q (c q)) in
-            let k = strobe-of i (m + (n - suc m)) z q in
-            rw (c q, q) (ap (λ (x : List Event). Falls ∷ ByteIn (0xC0 + i) ∷ ByteIn (w i) ∷ x) r ∙ sym (ap (λ (x : List Event). x ++ strobesOf n d w (ahead m (behind n i))) k ∙ joined i (m + (n - suc m)) (strobesOf n d w (ahead m (behind n i)))))
-          where
-            -- The strobe of a run: its first cell, and the row behind it.
-            strobe-of : (i k : ℕ) → n ≡ suc k → d i ≡ true
-                → runStrobe n d w i ≡ Falls ∷ ByteIn (0xC0 + i) ∷ ByteIn (w i) ∷ (map ByteIn (map w (row n d k (behind n i))) ++ (Rises ∷ []))
-            strobe-of i k e p = ap (λ (x : ℕ). strobe ((0xC0 + i) ∷ map w (row n d x i))) e ∙ rw p refl
-
-            joined : (i k : ℕ) (rest : List Event)
-                → (Falls ∷ ByteIn (0xC0 + i) ∷ ByteIn (w i) ∷ (map ByteIn (map w (row n d k (behind n i))) ++ (Rises ∷ []))) ++ rest
-                ≡ Falls ∷ ByteIn (0xC0 + i) ∷ ByteIn (w i) ∷ (map ByteIn (map w (row n d k (behind n i))) ++ (Rises ∷ rest))
-            joined i k rest =
-                ap (λ (x : List Event). Falls ∷ ByteIn (0xC0 + i) ∷ ByteIn (w i) ∷ x) (append-assoc (map ByteIn (map w (row n d k (behind n i)))) (Rises ∷ []) rest)
-        shut i l h c false q =
-            let r = more .between (behind n i) (next-left m i l) (omega arith) (behind-equal i (l .inside) q) in
-            rw (starts-not i q, q) r
-
-    written : (m : ℕ) → Written m
-    written zero = write-none
-    written (suc m) = write-more m (written m)
 
     -- The cell behind the last that differs, from a cell that stands m before the end: behind the open run, or behind the last of those ahead.
     record Ended (m : ℕ) : Type 0 where
@@ -251,6 +198,60 @@ module _ (n : ℕ) (d : ℕ → Bool) where
       ends = walk-all n f (front .inside);
       unbroken = λ a h. let z = front-first a in omega arith;
     }
+
+    module _ (w : ℕ → ℕ) where
+      -- What is written from a cell that stands m before the end: where a strobe is open, what is left of its run and then the runs ahead; where none is
+      -- open, the runs ahead.
+      record Written (m : ℕ) : Type 0 where
+        under : (i e : ℕ) → Left m i → m < n → d (before n i) ≡ true → Over e
+            → goes n d w m i true ≡ map ByteIn (map w (row n d (m + e) i)) ++ (Rises ∷ strobesOf n d w (ahead m i))
+        between : (i : ℕ) → Left m i → m ≤ n → (d i ≡ true → starts n d i ≡ true) → goes n d w m i false ≡ strobesOf n d w (ahead m i)
+
+      write-none : Written zero
+      write-none = record {
+        under = λ i e l h p o. rw (over-here i e l p o .0) refl;
+        between = λ i l h c. refl;
+      }
+
+      write-more : (m : ℕ) → Written m → Written (suc m)
+      write-more m more = record { under = λ i e l h p o. opened i e l h p o (d i) refl; between = λ i l h c. shut i l h c (d i) refl }
+        where
+          opened : (i e : ℕ) → Left (suc m) i → suc m < n → d (before n i) ≡ true → Over e → (b : Bool) → d i ≡ b
+              → goes n d w (suc m) i true ≡ map ByteIn (map w (row n d (suc m + e) i)) ++ (Rises ∷ strobesOf n d w (ahead (suc m) i))
+          opened i e l h p o true q =
+              let z : suc m + e ≡ suc (m + e) = omega arith in
+              let r = more .under (behind n i) e (next-left m i l) (omega arith) (ap d (before-behind n i (l .inside)) ∙ q) o in
+              rw (z, no-start m i l h p, q) (ap (λ (x : List Event). ByteIn (w i) ∷ x) r)
+          opened i e l h p o false q =
+              let z : suc m + e ≡ suc (m + e) = omega arith in
+              let r = more .between (behind n i) (next-left m i l) (omega arith) (behind-equal i (l .inside) q) in
+              rw (z, no-start m i l h p, q) (ap (λ (x : List Event). Rises ∷ x) r)
+
+          shut : (i : ℕ) → Left (suc m) i → suc m ≤ n → (d i ≡ true → starts n d i ≡ true) → (b : Bool) → d i ≡ b
+              → goes n d w (suc m) i false ≡ strobesOf n d w (ahead (suc m) i)
+          shut i l h c true q =
+              let z : n ≡ suc (m + (n - suc m)) = omega arith in
+              let r = more .under (behind n i) (n - suc m) (next-left m i l) (omega arith) (ap d (before-behind n i (l .inside)) ∙ q) (comes-over m i l h q (c q)) in
+              let k = strobe-of i (m + (n - suc m)) z q in
+              rw (c q, q) (ap (λ (x : List Event). Falls ∷ ByteIn (0xC0 + i) ∷ ByteIn (w i) ∷ x) r ∙ sym (ap (λ (x : List Event). x ++ strobesOf n d w (ahead m (behind n i))) k ∙ joined i (m + (n - suc m)) (strobesOf n d w (ahead m (behind n i)))))
+            where
+              -- The strobe of a run: its first cell, and the row behind it.
+              strobe-of : (i k : ℕ) → n ≡ suc k → d i ≡ true
+                  → runStrobe n d w i ≡ Falls ∷ ByteIn (0xC0 + i) ∷ ByteIn (w i) ∷ (map ByteIn (map w (row n d k (behind n i))) ++ (Rises ∷ []))
+              strobe-of i k e p = ap (λ (x : ℕ). strobe ((0xC0 + i) ∷ map w (row n d x i))) e ∙ rw p refl
+
+              joined : (i k : ℕ) (rest : List Event)
+                  → (Falls ∷ ByteIn (0xC0 + i) ∷ ByteIn (w i) ∷ (map ByteIn (map w (row n d k (behind n i))) ++ (Rises ∷ []))) ++ rest
+                  ≡ Falls ∷ ByteIn (0xC0 + i) ∷ ByteIn (w i) ∷ (map ByteIn (map w (row n d k (behind n i))) ++ (Rises ∷ rest))
+              joined i k rest =
+                  ap (λ (x : List Event). Falls ∷ ByteIn (0xC0 + i) ∷ ByteIn (w i) ∷ x) (append-assoc (map ByteIn (map w (row n d k (behind n i)))) (Rises ∷ []) rest)
+          shut i l h c false q =
+              let r = more .between (behind n i) (next-left m i l) (omega arith) (behind-equal i (l .inside) q) in
+              rw (starts-not i q, q) r
+
+      written : (m : ℕ) → Written m
+      written zero = write-none
+      written (suc m) = write-more m (written m)
 
 -- Those among m and k numbers, one behind the other; none of them; and the way once around the ring, as these.
 pub those-split : (t : ℕ → Bool) (m k i : ℕ) → those t (m + k) i ≡ those t m i ++ those t k (i + m)
@@ -310,7 +311,7 @@ module _ (n : ℕ) (t : ℕ → Bool) where
       let y : 0 + f ≡ f = omega arith in
       ap (λ (m : ℕ). those t m 0) z ∙ those-split t f (n - f) 0 ∙ ap (λ (m : ℕ). those t f 0 ++ those t (n - f) m) y
 
-module _ (n : ℕ) (d : ℕ → Bool) (w : ℕ → ℕ) (f : ℕ) (front : Front n d f) where
+module _ (n : ℕ) (d : ℕ → Bool) (f : ℕ) (front : Front n d f) where
   -- The starts ahead, once around from the front, are the starts in rising order.
   starts-ahead : ahead n d n f ≡ startsOf n d
   starts-ahead =
@@ -320,12 +321,12 @@ module _ (n : ℕ) (d : ℕ → Bool) (w : ℕ → ℕ) (f : ℕ) (front : Front
       ∙ append-nil (those (starts n d) (n - f) f)
       ∙ sym (in-order n (starts n d) f (front .inside) ∙ ap (λ (l : List ℕ). l ++ those (starts n d) (n - f) f) none)
 
-  -- Once around from the front, the runs are written.
-  pub goes-runs : goes n d w n f false ≡ runEvents n d w
-  goes-runs =
-      written n d w f front n .between f (once-around n d w f front) (omega arith) (front .opens)
-      ∙ ap (strobesOf n d w) starts-ahead
-
-  -- Once around from the front, the last cell that differs is the last of the last run, whatever the bytes are.
+  -- Once around from the front, the last cell that differs is the last of the last run.
   pub goes-ends : (e : ℕ) → goesEnd n d n f e ≡ lastEnd n d e (startsOf n d)
-  goes-ends e = end n d w f front n .between f e (once-around n d w f front) (omega arith) (front .opens) ∙ ap (lastEnd n d e) starts-ahead
+  goes-ends e = end n d f front n .between f e (once-around n d f front) (omega arith) (front .opens) ∙ ap (lastEnd n d e) starts-ahead
+
+-- Once around from the front, the runs are written.
+pub goes-runs : (n : ℕ) (d : ℕ → Bool) (w : ℕ → ℕ) (f : ℕ) (front : Front n d f) → goes n d w n f false ≡ runEvents n d w
+goes-runs n d w f front =
+    written n d f front w n .between f (once-around n d f front) (omega arith) (front .opens)
+    ∙ ap (strobesOf n d w) (starts-ahead n d f front)

@@ -98,7 +98,7 @@ pub record EndSoFar (n : ℕ) (d : ℕ → Bool) (end i left : ℕ) : Type 0 whe
 
 module _ (n : ℕ) (d : ℕ → Bool) where
   pub end-begun : 0 < n → EndSoFar n d 0 (frontOf n d) n
-  end-begun h = record { inside = h; ahead = goes-ends n d (λ i. 0) (frontOf n d) (front-is n d h) 0 }
+  end-begun h = record { inside = h; ahead = goes-ends n d (frontOf n d) (front-is n d h) 0 }
 
   pub end-more : (end i left : ℕ) → i < n → EndSoFar n d end i left → 0 < left → EndSoFar n d (whether (d i) (behind n i) end) (behind n i) (left - 1)
   end-more end i left g s h = go left h s
