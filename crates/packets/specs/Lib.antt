@@ -1,4 +1,5 @@
 pub mod Takes
+pub mod Walks
 pub mod Rows
 pub mod Joined
 pub mod Run

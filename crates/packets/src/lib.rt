@@ -1,6 +1,7 @@
 // A recording that comes in packets: each is taken through what is kept of the panel.
 mod packets;
 mod records;
+mod walked;
 
 pub use feed::Answer;
 pub use feed::Feed;

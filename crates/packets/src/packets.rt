@@ -2,6 +2,7 @@
 use crate::records::Taken;
 use crate::records::read_from;
 use crate::records::with_panel;
+use crate::walked::panel_walk;
 use account::Unfinished;
 use account::count_of;
 use account::joined;
@@ -13,7 +14,6 @@ use answers::Trial;
 use feed::Feed;
 use feed::tried;
 use panel::Panel;
-use panel_walks::panel_walk;
 use recording::Ending;
 use terms::Part;
 use terms::PartRead;

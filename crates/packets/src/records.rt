@@ -1,10 +1,10 @@
 // The records of a packet.
+use crate::walked::panel_walk;
 use account_ends::Ended;
 use account_ends::settled;
 use answers::Answer;
 use feed::Feed;
 use panel::Panel;
-use panel_walks::panel_walk;
 use terms::Part;
 ghost use Prim.Native.Nat.{_+_, _≤_};
 ghost use mathlib.Core.Path.{_≡_};

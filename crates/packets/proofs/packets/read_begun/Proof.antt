@@ -8,7 +8,7 @@ use lib.ListN.{length, take, getD, length-append}
 use lib.Seq.{length-take-le}
 use Rattle.recording.specs.Start.{body-four}
 use Rattle.recording.specs.Points.{stops-within}
-use Rattle.panel_walks.specs.Walks.{Walks}
+use Rattle.packets.specs.Walks.{Walks}
 use Rattle.account.specs.Bytes.{bytesOf, firstFive, wholeOf}
 use Rattle.account.specs.Laws.{first-take}
 use Rattle.packets.specs.declared.records.Taken.{Taken}

@@ -5,7 +5,7 @@ use mathlib.Core.Path.{sym, subst, subst⁻¹}
 use mathlib.Core.List.{List}
 use lib.ListN.{length, drop}
 use Rattle.recording.specs.Laws.{part-from}
-use Rattle.panel_walks.specs.Walks.{Walks}
+use Rattle.packets.specs.Walks.{Walks}
 use Rattle.packets.specs.declared.records.Taken.{Taken}
 use Rattle.packets.specs.Takes.{ReadsRow}
 use Rattle.packets.specs.Joined.{row-ends}

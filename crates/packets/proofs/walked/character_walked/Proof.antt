@@ -1,7 +1,7 @@
 -- `character_walked` meets its contract: what was walked is the half that speaks of the part, and the other half is kept. Assumes nothing.
 use borrow.Author.Needs.{needs}
-use Rattle.panel_walks.proofs.character_walked.Statement.{statement}
-use Rattle.panel_walks.proofs.character_walked.Tie as tie
+use Rattle.packets.proofs.walked.character_walked.Statement.{statement}
+use Rattle.packets.proofs.walked.character_walked.Tie as tie
 
 character-walk-requires : tie.Need-character-walk-requires
 character-walk-requires c κs = search needs

@@ -10,7 +10,7 @@ use segment::Family;
 use segment_walks::segment_walk;
 use terms::Part;
 ghost use Rattle.terms.specs.declared.Part.the-variants.{Pt6302};
-ghost use Rattle.panel_walks.specs.Walks.{Walks, SegmentWalks};
+ghost use Rattle.packets.specs.Walks.{Walks, SegmentWalks};
 
 // How the walk ended, and the knowledge after all events before that.
 pub struct PanelWalked {

@@ -1,5 +1,5 @@
 -- What each arm of the walk owes: that what is left behind its records makes of the knowledge behind them what was left before makes of the knowledge before.
-use Prim.Native.Nat.{ℕ, zero, suc, _+_, _*_, _<_}
+use Prim.Native.Nat.{ℕ, zero, suc, _+_, _*_, _<_, _≤_}
 use native.Mathlib.Omega.{arith}
 use mathlib.Core.Path.{_≡_, refl, sym, ap, _∙_, subst, subst⁻¹}
 use mathlib.Core.Bool.{Bool, true, false}
@@ -64,10 +64,6 @@ module _ (part : Part) (p : Family) (l : List ℕ) (first : Knowledge) where
   pub record Here (i : ℕ) (cells : List ℕ) (c : Control) : Type 0 where
     pub size : length cells ≡ 36
     pub kept : Kept same? (range (sizes p)) (move (sizes p)) (walked part l) (kview first) (rest part l i) (kview (record { cells = cells; control = c }))
-
-  -- Said of the place, the cells and the control in other words.
-  pub here-as : {i j : ℕ} {old new : List ℕ} {c r : Control} → i ≡ j → new ≡ old → r ≡ c → Here i old c → Here j new r
-  here-as {i} {j} {old} {new} {c} {r} e f g h = subst (λ (x : ℕ). Here x new r) e (subst⁻¹ (λ (x : List ℕ). Here i x r) f (subst⁻¹ (λ (x : Control). Here i old x) g h))
 
   -- One record.
   pub takes : (i n : ℕ) (e : Event) (old new : List ℕ) (c r : Control) → i < length l → front part (drop i l) ≡ Is e n → length new ≡ 36
@@ -135,7 +131,7 @@ module _ (part : Part) (p : Family) (l : List ℕ) (first : Knowledge) where
       (counted-each p c to n (byteOf l i) (held old) counting (puts .room)) h
 
   -- The cells where each byte of a run may have gone to any of them.
-  abbrev Together : ℕ → ℕ → List ℕ → List ℕ → Type 0
+  abbrev pub Together : ℕ → ℕ → List ℕ → List ℕ → Type 0
   Together i n old new = (j k : ℕ) → whether (among 0 1 (sizes p .cells) j) (metRun 8 (byteOf l i) n k (held old j k)) (held old j k) ≡ held new j k
 
   -- They meet what the bytes have in common.
@@ -183,3 +179,19 @@ module _ (part : Part) (p : Family) (l : List ℕ) (first : Knowledge) where
           let e = drifted-ends (sizes p) (byteOf l i) (kview start) n in
           every (λ (f : Fact). drifted (sizes p) (byteOf l i) (kview start) n f ≡ cview (held new) (writing c (c .address) (r .led)) f)
           (λ j k. e (cell j k) ∙ cells j k) (e address) (e dataMode) (e stepping) (e mode) (e dimming) (e display) (λ k. e (led k) ∙ light k) (λ j. e (key j)) (e switches) (e readCount) (e position)
+
+-- What the records of every day owe together: wherever a walk stands at place i with what is known there, it stands at place j with what is known then.
+pub record GoesOn (p : Family) (l : List ℕ) (i : ℕ) (old : List ℕ) (c : Control) (j : ℕ) (new : List ℕ) (r : Control) : Type 0 where
+  pub behind : i ≤ j
+  pub inside : j ≤ length l
+  pub size : length new ≡ 36
+  pub stands : (part : Part) (first : Knowledge) → Here part p l first i old c → Here part p l first j new r
+
+-- From there it goes on to a further place.
+pub goes-on : {p : Family} {l : List ℕ} {i : ℕ} {old : List ℕ} {c : Control} {j : ℕ} {new : List ℕ} {r : Control} {k : ℕ} {last : List ℕ} {s : Control} → GoesOn p l i old c j new r → j ≤ k → k ≤ length l → length last ≡ 36
+    → ((part : Part) (first : Knowledge) → Here part p l first j new r → Here part p l first k last s) → GoesOn p l i old c k last s
+goes-on {p} {l} {i} {old} {c} {j} {new} {r} {k} {last} {s} g further inside size on = record { behind = omega (arith, g .behind); inside = inside; size = size; stands = λ part first h. on part first (g .stands part first h) }
+
+-- Said of the cells and the control in other words.
+pub goes-as : {p : Family} {l : List ℕ} {i : ℕ} {old : List ℕ} {c : Control} {j : ℕ} {new last : List ℕ} {r s : Control} → last ≡ new → s ≡ r → GoesOn p l i old c j new r → GoesOn p l i old c j last s
+goes-as {p} {l} {i} {old} {c} {j} {new} {last} {r} {s} e f g = subst⁻¹ (λ (x : List ℕ). GoesOn p l i old c j x s) e (subst⁻¹ (λ (x : Control). GoesOn p l i old c j new x) f g)

@@ -1,7 +1,7 @@
 -- `segment_walked` meets its contract: what was walked is the half that speaks of the part, and the other half is kept. Assumes nothing.
 use borrow.Author.Needs.{needs}
-use Rattle.panel_walks.proofs.segment_walked.Statement.{statement}
-use Rattle.panel_walks.proofs.segment_walked.Tie as tie
+use Rattle.packets.proofs.walked.segment_walked.Statement.{statement}
+use Rattle.packets.proofs.walked.segment_walked.Tie as tie
 
 segment-walk-requires : tie.Need-segment-walk-requires
 segment-walk-requires c κs = search needs

@@ -1,10 +1,10 @@
 -- `panel_walk` meets its contract: each part goes to its family, whose facts, ranges and moves are the part's. Assumes nothing.
 use mathlib.Core.Path.{ap, _∙_, subst⁻¹}
 use Rattle.parts.specs.Kind.{partIs}
-use Rattle.panel_walks.specs.Walks.{Walks, by-family}
+use Rattle.packets.specs.Walks.{Walks, by-family}
 use borrow.Author.Needs.{needs}
-use Rattle.panel_walks.proofs.panel_walk.Statement.{statement}
-use Rattle.panel_walks.proofs.panel_walk.Tie as tie
+use Rattle.packets.proofs.walked.panel_walk.Statement.{statement}
+use Rattle.packets.proofs.walked.panel_walk.Tie as tie
 
 kind-of-requires : tie.Need-kind-of-requires
 kind-of-requires c κs = search needs

@@ -15,7 +15,7 @@ use Rattle.segment.specs.Move as SegmentMove
 use Rattle.segment_knowledge.specs.View as OfSegment
 use Rattle.panel.specs.declared.knowledge.Panel.{Panel}
 use Rattle.panel.specs.View.{knownOf, OtherKept}
-use Rattle.panel_walks.specs.declared.PanelWalked.{PanelWalked}
+use Rattle.packets.specs.declared.walked.PanelWalked.{PanelWalked}
 
 -- The records from the front, each by 5, 6, 7, 8: how they end, what the events before that, in turn, make of the
 -- knowledge, and that the half that speaks of the other parts is as it was.
