@@ -13,9 +13,7 @@ use segment::behind;
 use segment_commanded::commanded;
 use segment_first_byte::command_of;
 use terms::Address;
-ghost use mathlib.Core.Path.{_≡_};
 ghost use Prim.Native.Nat.{_<_};
-ghost use lib.ListN.{length, set};
 ghost use Rattle.segment.specs.Family.{sizes};
 ghost use Rattle.segment.specs.View.{By};
 ghost use Rattle.segment.specs.Value.{pointer, data-mode, steps, at-position};
@@ -33,19 +31,16 @@ pub fn byte_in(family: Family, chip: Segment, byte: u8) -> Moved
     }
 }
 
-fn written_in(family: Family, chip: Segment, byte: u8) -> Moved
+fn written_in(family: Family, mut chip: Segment, byte: u8) -> Moved
     ensures { λ r. ⌜ By (written (sizes family) byte (data-mode (chip .«data»))) chip r ⌝ }
 {
     let data = chip.data;
     match data {
         Data::WriteDisplay => stored_by(family, chip, byte),
-        Data::WriteLed => Moved {
-            chip: Segment {
-                led: lit(chip.led, byte),
-                ..chip
-            },
-            any: NONE,
-        },
+        Data::WriteLed => {
+            chip.led = lit(chip.led, byte);
+            Moved { chip, any: NONE }
+        }
         Data::ReadKeys => unchanged(chip),
         Data::ReadSwitches => unchanged(chip),
     }
@@ -69,41 +64,23 @@ fn stored_by(family: Family, chip: Segment, byte: u8) -> Moved
     }
 }
 
-fn stored_at(family: Family, chip: Segment, byte: u8, cell: Address) -> Moved
+fn stored_at(family: Family, mut chip: Segment, byte: u8, cell: Address) -> Moved
     requires { ⌜ cell .0 < sizes family .cells ⌝ }
     ensures { λ r. ⌜ By (storedAt (sizes family) byte (cell .0) (steps (chip .stepping))) chip r ⌝ }
 {
-    let old = chip.cells;
-    let cells = stored_in(old, cell, byte);
+    let i = cell.0 as usize;
+    chip.cells[i] = byte;
     let stepping = chip.stepping;
     match stepping {
         Stepping::Increment => {
             let address = behind(family, cell);
             Moved {
-                chip: Segment {
-                    cells,
-                    address,
-                    ..chip
-                },
+                chip: Segment { address, ..chip },
                 any: NONE,
             }
         }
-        Stepping::Fixed => Moved {
-            chip: Segment { cells, ..chip },
-            any: NONE,
-        },
+        Stepping::Fixed => Moved { chip, any: NONE },
     }
-}
-
-// The cells with one of them made anew.
-fn stored_in(cells: [u8; 36], cell: Address, byte: u8) -> [u8; 36]
-    requires { ⌜ cell .0 < 36 ⌝ }
-    ensures { λ r. ⌜ (r ≡ set cells (cell .0) byte) × (length cells ≡ 36) ⌝ }
-{
-    let mut new = cells;
-    let i = cell.0 as usize;
-    new[i] = byte;
-    new
 }
 
 pub fn byte_out(chip: Segment) -> Moved
@@ -130,12 +107,9 @@ fn read_out(chip: Segment) -> Moved
     }
 }
 
-fn counted_up(chip: Segment) -> Moved
+fn counted_up(mut chip: Segment) -> Moved
     ensures { λ r. ⌜ By (counted (chip .count)) chip r ⌝ }
 {
-    let count = if chip.count < 4 { chip.count + 1 } else { 4 };
-    Moved {
-        chip: Segment { count, ..chip },
-        any: NONE,
-    }
+    chip.count = if chip.count < 4 { chip.count + 1 } else { 4 };
+    Moved { chip, any: NONE }
 }

@@ -42,9 +42,9 @@ returns c = by-value (written (sizes (c .before .before .before .args .family)) 
 returns-2 : tie.Need-returns-2
 unfolding setBits
 returns-2 c =
-    let a = c .before .before .before .before .before .args in
-    by-value (written (sizes (a .family)) (a .byte)) _ _ _ _ _ (ap data-mode (c .before .before .before .enum-told2 .given .1))
-    (every _ (λ i k. refl) refl refl refl refl refl refl (λ k. led-lit (a .chip) _ (a .byte) k (c .before .before .lit .ensures)) (λ i. refl) refl refl refl)
+    let a = c .before .before .before .args in
+    by-value (written (sizes (a .family)) (a .byte)) _ _ _ _ _ (ap data-mode (c .before .enum-told2 .given .1))
+    (every _ (λ i k. refl) refl refl refl refl refl refl (λ k. led-lit (a .chip) _ (a .byte) k (c .lit .ensures)) (λ i. refl) refl refl refl)
 
 returns-3 : tie.Need-returns-3
 returns-3 c = by-value (written (sizes (c .before .before .before .args .family)) (c .before .before .before .args .byte)) _ _ _ _ _ (ap data-mode (c .before .enum-told3 .given .1)) (c .unchanged .ensures)
