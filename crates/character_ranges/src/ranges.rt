@@ -2,11 +2,11 @@
 use character_knowledge::Control;
 use character_knowledge::Knowledge;
 use character_knowledge::Pointing;
+use lamp_tests::all_sound;
+use lamp_tests::lamps_sound;
 use lamps::EIGHT;
 use lamps::SEVEN;
 use lamps::TWO;
-use lamps::all_sound;
-use lamps::lamps_sound;
 use standing::both_hold;
 use standing::within;
 ghost use mathlib.Core.Path.{_≡_};

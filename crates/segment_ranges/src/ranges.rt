@@ -1,9 +1,9 @@
 // Number 2: whether every known value is in its fact's range, and every bit that is not known is stored as 0. What the part lacks is never tested.
 use key_codes::all_within;
+use lamp_tests::all_sound;
+use lamp_tests::lamps_sound;
 use lamps::EIGHT;
 use lamps::FOUR;
-use lamps::all_sound;
-use lamps::lamps_sound;
 use segment::Family;
 use segment_knowledge::Control;
 use segment_knowledge::Knowledge;

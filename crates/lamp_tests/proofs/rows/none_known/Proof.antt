@@ -1,13 +1,13 @@
--- `lamps::rows::none_known` meets its contract: where the number that takes in every code passed is 0, each of them is. Assumes nothing.
+-- `lamp_tests::rows::none_known` meets its contract: where the number that takes in every code passed is 0, each of them is. Assumes nothing.
 use Prim.Native.Nat.{ℕ, _<_, _≤_, _-_}
 use native.Mathlib.Omega.{arith}
 use mathlib.Core.Path.{_≡_}
 use lib.ListN.{length, getD}
 use borrow.Author.Needs.{needs}
 use borrow.Author.Tests.{eqb-true}
 use Rattle.lamps.specs.Row.{noughts-more, noughts-held}
-use Rattle.lamps.proofs.rows.none_known.Statement.{statement}
-use Rattle.lamps.proofs.rows.none_known.Tie as tie
+use Rattle.lamp_tests.proofs.rows.none_known.Statement.{statement}
+use Rattle.lamp_tests.proofs.rows.none_known.Tie as tie
 
 abbrev Inv-loop : tie.InvT-loop
 Inv-loop codes any₀ i₀ any i = (i ≤ length codes) × (any ≡ 0 → (j : ℕ) → j < i → getD codes j 0 ≡ 0)

@@ -1,8 +1,8 @@
--- `lamps::code::wrong_bits` meets its contract: the laws `sound-code` and `code-sound`. Assumes nothing.
+-- `lamp_tests::code::wrong_bits` meets its contract: the laws `sound-code` and `code-sound`. Assumes nothing.
 use borrow.Author.Tests.{eqb-true, eq-eqb}
 use Rattle.lamps.specs.Lamp.{sound-code, code-sound}
-use Rattle.lamps.proofs.code.wrong_bits.Statement.{statement}
-use Rattle.lamps.proofs.code.wrong_bits.Tie as tie
+use Rattle.lamp_tests.proofs.code.wrong_bits.Statement.{statement}
+use Rattle.lamp_tests.proofs.code.wrong_bits.Tie as tie
 
 returns : tie.Need-returns
 returns c = λ w W. record {

@@ -1,14 +1,14 @@
--- `lamps::rows::all_sound` meets its contract: the number that takes in the wrong bits of the codes passed is 0 exactly where all of them are sound. Assumes nothing.
+-- `lamp_tests::rows::all_sound` meets its contract: the number that takes in the wrong bits of the codes passed is 0 exactly where all of them are sound. Assumes nothing.
 use Prim.Native.Nat.{ℕ, _≤_, _-_}
 use native.Mathlib.Omega.{arith}
 use mathlib.Core.Path.{_≡_, refl, sym}
 use lib.Dec.{eqb}
 use borrow.Author.Needs.{needs}
 use Rattle.rules.specs.Tests.{Tests}
 use Rattle.lamps.specs.View.{Wide}
 use Rattle.lamps.specs.Row.{LampsSound, lamps-more}
-use Rattle.lamps.proofs.rows.all_sound.Statement.{statement}
-use Rattle.lamps.proofs.rows.all_sound.Tie as tie
+use Rattle.lamp_tests.proofs.rows.all_sound.Statement.{statement}
+use Rattle.lamp_tests.proofs.rows.all_sound.Tie as tie
 
 abbrev Inv-loop : tie.InvT-loop
 Inv-loop codes count wide wrong₀ i₀ wrong i = (i ≤ count) × ((w : ℕ) → Wide w wide → Tests (eqb wrong 0) (LampsSound w codes i))
