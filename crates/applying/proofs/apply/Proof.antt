@@ -1,11 +1,11 @@
--- `changes::rows::apply` meets its contract: each kind of change is done to the codes that it names. Assumes nothing.
+-- `applying::apply` meets its contract: each kind of change is done to the codes that it names. Assumes nothing.
 use mathlib.Core.Path.{refl, subst, subst⁻¹}
 use lib.ListN.{length}
 use Rattle.changes.specs.Change.{Changes, Inside}
 use Rattle.changes.specs.declared.change.Change.{Change}
 use borrow.Author.Needs.{needs}
-use Rattle.changes.proofs.rows.apply.Statement.{statement}
-use Rattle.changes.proofs.rows.apply.Tie as tie
+use Rattle.applying.proofs.apply.Statement.{statement}
+use Rattle.applying.proofs.apply.Tie as tie
 
 enum-told : tie.Need-enum-told
 enum-told c = search needs

@@ -1,14 +1,14 @@
--- `changes::rows::meet_all` meets its contract: codes side by side and codes apart are met in loops of their own, with the code of the byte. Assumes nothing.
+-- `applying::meet_all` meets its contract: codes side by side and codes apart are met in loops of their own, with the code of the byte. Assumes nothing.
 use Prim.Native.Nat.{ℕ, _+_, _*_, _<_}
 use native.Mathlib.Omega.{arith}
 use mathlib.Core.Path.{subst, subst⁻¹}
 use lib.ListN.{length}
 use Rattle.changes.specs.Change.{Changes}
 use Rattle.changes.specs.Together.{met-byte}
 use Rattle.changes.specs.declared.change.Change.the-variants.{Meet}
 use borrow.Author.Needs.{needs}
-use Rattle.changes.proofs.rows.meet_all.Statement.{statement}
-use Rattle.changes.proofs.rows.meet_all.Tie as tie
+use Rattle.applying.proofs.meet_all.Statement.{statement}
+use Rattle.applying.proofs.meet_all.Tie as tie
 
 cast-at : tie.Need-cast-at
 cast-at c = search needs

@@ -1,9 +1,9 @@
--- `changes::rows::put` meets its contract: the code at the place has the byte put, and the others are as they were. Assumes nothing.
+-- `applying::put` meets its contract: the code at the place has the byte put, and the others are as they were. Assumes nothing.
 use Rattle.lamps.specs.View.{told}
 use Rattle.changes.specs.Together.{set-seen}
 use borrow.Author.Needs.{needs}
-use Rattle.changes.proofs.rows.put.Statement.{statement}
-use Rattle.changes.proofs.rows.put.Tie as tie
+use Rattle.applying.proofs.put.Statement.{statement}
+use Rattle.applying.proofs.put.Tie as tie
 
 cast-i : tie.Need-cast-i
 cast-i c = search needs
