@@ -1,6 +1,5 @@
 // The walk for PT6312 and PT6315.
 use byte_runs::passed;
-use byte_runs::put_run;
 use byte_runs::shared;
 use changes::forget;
 use changes::meet_one;
@@ -38,6 +37,7 @@ use segment_known::rises;
 use segment_known::stepping_set;
 use segment_known::taken;
 use segment_known::to_mode;
+use stored_runs::put_run;
 use terms::Event;
 use terms::Part;
 use terms::Place;

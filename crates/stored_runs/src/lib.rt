@@ -1,13 +1,14 @@
-// A run that is stored.
+// A run of bytes clocked in, put into a row of codes where the row stands.
 use lamps::put_byte;
 use terms::Address;
 use terms::Place;
 ghost use mathlib.Core.Path.{_≡_};
 ghost use Prim.Native.Nat.{_+_, _<_, _≤_};
 ghost use lib.ListN.{length, getD};
-ghost use Rattle.byte_runs.specs.Putting.{PutsRun};
+ghost use Rattle.stored_runs.specs.Putting.{PutsRun};
 
-// Puts the bytes into the codes from the first on, each behind the one before it, up to the end of the memory, and tells how many they are.
+// Puts the bytes into the codes from the first on, each behind the one before it, up to the end of the memory, and tells how many they are. The run starts
+// at a whole record of kind 03, and ends before the first that is none.
 pub fn put_run(
     codes: &mut [u16],
     wide: u16,

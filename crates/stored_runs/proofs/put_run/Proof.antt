@@ -1,4 +1,4 @@
--- `byte_runs::putting::put_run` meets its contract: the bytes so far are a run and stand in the codes, at every step of the loop; the first is stored
+-- `stored_runs::put_run` meets its contract: the bytes so far are a run and stand in the codes, at every step of the loop; the first is stored
 -- in any case. Assumes nothing.
 use Prim.Native.Nat.{ℕ, _+_, _*_, _-_, _<_, _≤_}
 use native.Mathlib.Omega.{arith}
@@ -14,9 +14,9 @@ use borrow.Author.Tests.{eqb-true, eq-eqb}
 use Rattle.lamps.specs.View.{told}
 use Rattle.changes.specs.Together.{set-seen}
 use Rattle.walks.specs.Run.{Run, byteOf, run-none, run-more}
-use Rattle.byte_runs.specs.Putting.{Stored, stored-more}
-use Rattle.byte_runs.proofs.putting.put_run.Statement.{statement}
-use Rattle.byte_runs.proofs.putting.put_run.Tie as tie
+use Rattle.stored_runs.specs.Putting.{Stored, stored-more}
+use Rattle.stored_runs.proofs.put_run.Statement.{statement}
+use Rattle.stored_runs.proofs.put_run.Tie as tie
 
 abbrev Inv-loop : tie.InvT-loop
 Inv-loop codes₀ wide cells bytes from start records room most j₀ codes j =
