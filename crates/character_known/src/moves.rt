@@ -1,6 +1,6 @@
 // What each event makes of a knowledge.
-use applying::apply;
 use crate::bytes::byte_in;
+use applying::apply;
 use character_knowledge::Control;
 use character_knowledge::FIRST;
 use character_knowledge::IDLE;

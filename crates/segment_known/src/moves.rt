@@ -1,9 +1,9 @@
 // What each event makes of a knowledge.
-use applying::apply;
 use crate::bytes::byte_in;
 use crate::latches::keys_latched;
 use crate::latches::switches_latched;
 use crate::reads::byte_out;
+use applying::apply;
 use lamps::EIGHT;
 use lamps::FOUR;
 use lamps::put_byte;
