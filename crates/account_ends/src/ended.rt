@@ -35,16 +35,11 @@ pub fn settled(total: u32, packet: &[u8], from: usize, ending: Ending) -> Ended
         Ending::Done => went_on(Unfinished::None, sum),
         Ending::Stops(refusal, at) => {
             let inside = from + at.0;
-            let place = before + inside;
-            match refusal {
-                Refusal::CutShort => {
-                    let unfinished = held(&packet[inside..]);
-                    went_on(unfinished, sum)
-                }
-                Refusal::Unlisted => halts(before, refusal, place),
-                Refusal::Foreign => halts(before, refusal, place),
-                Refusal::Forbidden => halts(before, refusal, place),
+            if let Refusal::CutShort = refusal {
+                let unfinished = held(&packet[inside..]);
+                return went_on(unfinished, sum);
             }
+            halts(before, refusal, before + inside)
         }
     }
 }
