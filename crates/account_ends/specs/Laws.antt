@@ -2,7 +2,7 @@
 -- in full by its number, its place and what it leaves.
 use Prim.Native.Nat.{ℕ, _+_, _≤_}
 use native.Mathlib.Omega.{arith}
-use mathlib.Core.Path.{_≡_, refl, sym, ap, _∙_}
+use mathlib.Core.Path.{_≡_, refl, sym, ap, _∙_, subst}
 use mathlib.Core.List.{List}
 use lib.ListN.{length, drop, getD}
 use lib.Seq.{drop-drop}
@@ -32,10 +32,11 @@ module _ (first before after : ℕ) (l : List ℕ) where
   halting CutShort at shut = absurd (shut tt)
   halting Forbidden at shut = record { numbered = refl; placed = refl; counted = refl; unfinished = refl; stands = refl }
 
-  -- A stop that is told.
-  pub halts-so : (e : Ending) (x : Refusal) (at : Place) (place : ℕ) (r : Ended) → e ≡ Stops x at → (Open (Stops x at) → ⊥)
+  -- A stop at x, which is y, and is told.
+  pub halts-so : (e : Ending) (x y : Refusal) (at : Place) (place : ℕ) (r : Ended) → e ≡ Stops x at → x ≡ y → (Open (Stops y at) → ⊥)
       → place ≡ first + at .0 → r ≡ halted before x place → ByEnd e first before after l r
-  halts-so e x at place r stop shut there same = rw (stop, same, there) (halting x at shut)
+  halts-so e x y at place r stop is shut there same =
+      rw (stop, same, there) (halting x at (λ o. shut (subst (λ (z : Refusal). Open (Stops z at)) is o)))
 
 halts-at : {n at to before : ℕ} {r : Ended} → at ≡ to → Halts n at before r → Halts n to before r
 halts-at e h = record { numbered = h .numbered; placed = h .placed ∙ e; counted = h .counted; unfinished = h .unfinished; stands = h .stands }

@@ -54,8 +54,8 @@ module _ (c : tie.After-struct-known) where
   refusing : OneOf (0 ∷ 1 ∷ 3 ∷ []) (tagOf the-type x) → (r : Ended) → r ≡ halted (s .args .total) x (s .args .total + (s .args .from + at .0))
       → ByEnd (s .args .ending) (s .args .total + s .args .from) (s .args .total) (s .args .total + length (s .args .packet .now)) row r
   refusing k r e =
-      halts-so (s .args .total + s .args .from) (s .args .total) (s .args .total + length (s .args .packet .now)) row (s .args .ending) x at
-      (s .args .total + (s .args .from + at .0)) r (c .before .before .ending .given .1) (shut x at k) (omega arith) e
+      halts-so (s .args .total + s .args .from) (s .args .total) (s .args .total + length (s .args .packet .now)) row (s .args .ending) x x at
+      (s .args .total + (s .args .from + at .0)) r (c .before .before .ending .given .1) refl (shut x at k) (omega arith) e
 
   -- What is cut short, as a part of the packet.
   left : take (length (s .args .packet .now) - (s .args .from + at .0)) (drop (s .args .from + at .0) (s .args .packet .now)) ≡ drop (at .0) row

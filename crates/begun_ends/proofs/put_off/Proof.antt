@@ -1,4 +1,4 @@
--- `account_ends::ended::put_off` meets its contract: the bytes that were there and the packet's are the front of the first five.
+-- `begun_ends::put_off` meets its contract: the bytes that were there and the packet's are the front of the first five.
 -- Assumes nothing.
 use native.Mathlib.Omega.{arith}
 use Prim.Native.Nat.{_+_, _≤_}
@@ -8,10 +8,10 @@ use lib.ListN.{length, take, length-append}
 use lib.Seq.{length-take-le, take-all}
 use Rattle.account.specs.Bytes.{bytesOf}
 use Rattle.account.specs.Laws.{first-take}
 use Rattle.account_ends.specs.Laws.{goes-so}
 use borrow.Author.Needs.{needs}
-use Rattle.account_ends.proofs.ended.put_off.Statement.{statement}
-use Rattle.account_ends.proofs.ended.put_off.Tie as tie
+use Rattle.begun_ends.proofs.put_off.Statement.{statement}
+use Rattle.begun_ends.proofs.put_off.Tie as tie
 
 -- All bytes that have come fit into the row.
 within : (c : tie.After-count-of) → c .count-of .result + length (c .before .before .before .args .packet .now) ≤ length (c .before .joined .result)

@@ -1,12 +1,12 @@
--- `account_ends::ended::begun_refused` meets its contract: the unfinished bytes are the last of the total.
+-- `begun_ends::begun_refused` meets its contract: the unfinished bytes are the last of the total.
 -- Assumes nothing.
 use Prim.Native.Nat.{ℕ}
 use native.Mathlib.Omega.{arith}
 use mathlib.Core.Path.{ap, _∙_}
 use Rattle.account_ends.specs.Ended.{halted}
 use borrow.Author.Needs.{needs}
-use Rattle.account_ends.proofs.ended.begun_refused.Statement.{statement}
-use Rattle.account_ends.proofs.ended.begun_refused.Tie as tie
+use Rattle.begun_ends.proofs.begun_refused.Statement.{statement}
+use Rattle.begun_ends.proofs.begun_refused.Tie as tie
 
 count-of-requires : tie.Need-count-of-requires
 count-of-requires c κs = search needs
