@@ -1,9 +1,7 @@
 // How a packet's records end, and what is kept then.
 use account::Kept;
 use account::Unfinished;
-use account::count_of;
 use account::held;
-use account::joined;
 use answers::Answer;
 use answers::refused;
 use recording::Ending;
@@ -11,10 +9,8 @@ use recording::Refusal;
 use terms::Place;
 ghost use Prim.Native.Nat.{_+_, _≤_};
 ghost use mathlib.Core.Path.{_≡_};
-ghost use mathlib.Core.List.{_++_};
 ghost use lib.ListN.{length, drop};
-ghost use Rattle.account.specs.Bytes.{bytesOf, firstPlace};
-ghost use Rattle.account_ends.specs.Ended.{Goes, ByEnd, EndOf, went, halted};
+ghost use Rattle.account_ends.specs.Ended.{ByEnd, EndOf, went, halted};
 
 // The packet's answer, and the account after it.
 pub struct Ended {
@@ -35,43 +31,17 @@ pub fn settled(total: u32, packet: &[u8], from: usize, ending: Ending) -> Ended
         Ending::Done => went_on(Unfinished::None, sum),
         Ending::Stops(refusal, at) => {
             let inside = from + at.0;
-            let place = before + inside;
-            match refusal {
-                Refusal::CutShort => {
-                    let unfinished = held(&packet[inside..]);
-                    went_on(unfinished, sum)
-                }
-                Refusal::Unlisted => halts(before, refusal, place),
-                Refusal::Foreign => halts(before, refusal, place),
-                Refusal::Forbidden => halts(before, refusal, place),
+            if let Refusal::CutShort = refusal {
+                let unfinished = held(&packet[inside..]);
+                return went_on(unfinished, sum);
             }
+            halts(before, refusal, before + inside)
         }
     }
 }
 
-// The record that was begun is still not whole: all its bytes are kept.
-pub fn put_off(unfinished: Unfinished, total: u32, packet: &[u8]) -> Ended
-    requires { ⌜ (length (bytesOf unfinished) + length (now packet) ≤ 4) × (total + length (now packet) ≤ 4294967295) ⌝ }
-    ensures { λ r. ⌜ Goes (total + length (now (packet .entry))) (bytesOf unfinished ++ now (packet .entry)) r ⌝ }
-{
-    let row = joined(unfinished, packet);
-    let all = count_of(unfinished) + packet.len();
-    went_on(held(&row[..all]), total as usize + packet.len())
-}
-
-// The record that was begun is refused; it starts where its first byte stood, and the refusal points `at.0` bytes behind that.
-pub fn begun_refused(unfinished: Unfinished, total: u32, refusal: Refusal, at: Place) -> Ended
-    requires { ⌜ (length (bytesOf unfinished) ≤ total) × (at .0 ≤ 4) ⌝ }
-    ensures { λ r. ⌜ r ≡ halted total refusal (firstPlace unfinished total + at .0) ⌝ }
-{
-    let before = total as usize;
-    let first = before - count_of(unfinished);
-    let place = first + at.0;
-    halts(before, refusal, place)
-}
-
 // Nothing is told against the packet: its bytes are counted, and those of a record that is not whole are kept.
-fn went_on(unfinished: Unfinished, total: usize) -> Ended
+pub fn went_on(unfinished: Unfinished, total: usize) -> Ended
     requires { ⌜ total ≤ 4294967295 ⌝ }
     ensures { λ r. ⌜ r ≡ went unfinished total ⌝ }
 {
@@ -84,7 +54,7 @@ fn went_on(unfinished: Unfinished, total: usize) -> Ended
 }
 
 // A record is refused: that stands from now on, and the total is what it was.
-fn halts(total: usize, refusal: Refusal, at: usize) -> Ended
+pub fn halts(total: usize, refusal: Refusal, at: usize) -> Ended
     requires { ⌜ total ≤ 4294967295 ⌝ }
     ensures { λ r. ⌜ r ≡ halted total refusal at ⌝ }
 {

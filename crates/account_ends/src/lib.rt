@@ -2,6 +2,6 @@
 mod ended;
 
 pub use ended::Ended;
-pub use ended::begun_refused;
-pub use ended::put_off;
+pub use ended::halts;
 pub use ended::settled;
+pub use ended::went_on;

@@ -1,11 +1,11 @@
-// What an event does to a row of codes: a small value, and the change that it makes where the row stands.
+// What an event does to a row of codes: a small value, and the loops by which codes lose what is no longer known. `applying` makes a change where the row stands.
 mod change;
 mod rows;
 
 pub use change::Change;
 pub use change::both_changes;
 pub use change::loosened;
-pub use rows::apply;
 pub use rows::forget;
+pub use rows::meet;
 pub use rows::meet_one;
 pub use rows::meet_run;

@@ -1,19 +1,17 @@
-// A change made to a row of codes, where the row stands. `wide` has the bits of the width, as `lamps` has them.
-use crate::change::Change;
+// What is forgotten in a row of codes, where the row stands. `wide` has the bits of the width, as `lamps` has them.
 use lamps::code_of;
 use lamps::meet_code;
-use lamps::put_byte;
 use terms::Address;
 ghost use mathlib.Core.Path.{_≡_};
 ghost use Prim.Native.Nat.{ℕ, _+_, _*_, _<_};
 ghost use lib.ListN.{length};
 ghost use Rattle.knowing.specs.Standing.{unknown};
 ghost use Rattle.lamps.specs.View.{held, Wide};
-ghost use Rattle.changes.specs.Change.{Inside, Changes, Met};
-ghost use Rattle.changes.specs.declared.change.Change.the-variants.{Put, Meet};
+ghost use Rattle.changes.specs.Change.{Changes, Met};
+ghost use Rattle.changes.specs.declared.change.Change.the-variants.{Meet};
 
 // What the code `c` says may have gone to any of these codes: `count` of them, from `from` on, one in `by`. Each keeps what it has in common with `c`.
-fn meet(codes: &mut [u16], wide: u16, from: usize, by: usize, count: usize, c: u16)
+pub fn meet(codes: &mut [u16], wide: u16, from: usize, by: usize, count: usize, c: u16)
     requires { ⌜ (0 < by) × ((i : ℕ) → i < count → from + by * i < length (now codes)) ⌝ }
     ensures { λ r. ⌜ Met wide c (now (codes .entry)) from by count (now (codes .exit)) ⌝ }
 {
@@ -37,41 +35,6 @@ pub fn meet_run(codes: &mut [u16], wide: u16, from: usize, count: usize, c: u16)
         codes[at] = meet_code(wide, codes[at], c);
         i += 1;
     }
-}
-
-fn meet_all(codes: &mut [u16], wide: u16, from: Address, by: u8, count: u8, byte: u8)
-    requires { ⌜ Inside (length (now codes)) (Meet from by count byte) ⌝ }
-    ensures { λ r. ⌜ ((w : ℕ) → Wide w wide → Changes w (Meet from by count byte) (now (codes .entry)) (now (codes .exit))) ⌝ }
-{
-    let at = from.0 as usize;
-    let c = code_of(wide, byte);
-    if by == 1 {
-        meet_run(codes, wide, at, count as usize, c);
-    } else {
-        meet(codes, wide, at, by as usize, count as usize, c);
-    }
-}
-
-// A change where the row stands.
-pub fn apply(codes: &mut [u16], wide: u16, change: Change)
-    requires { ⌜ Inside (length (now codes)) change ⌝ }
-    ensures { λ r. ⌜ ((w : ℕ) → Wide w wide → Changes w change (now (codes .entry)) (now (codes .exit))) ⌝ }
-{
-    match change {
-        Change::Keep => {}
-        Change::Put(cell, byte) => put(codes, wide, cell, byte),
-        Change::Meet(from, by, count, byte) => meet_all(codes, wide, from, by, count, byte),
-        Change::Forget => forget(codes),
-    }
-}
-
-// One code becomes known.
-fn put(codes: &mut [u16], wide: u16, cell: Address, byte: u8)
-    requires { ⌜ cell .0 < length (now codes) ⌝ }
-    ensures { λ r. ⌜ ((w : ℕ) → Wide w wide → Changes w (Put cell byte) (now (codes .entry)) (now (codes .exit))) ⌝ }
-{
-    let i = cell.0 as usize;
-    codes[i] = put_byte(wide, codes[i], byte);
 }
 
 // A byte may have gone to this code.

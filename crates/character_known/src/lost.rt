@@ -1,7 +1,7 @@
 // Nothing at all is known, as behind a gap.
 use character_knowledge::Control;
 use character_knowledge::Pointing;
-use lamps::none_known;
+use lamp_tests::none_known;
 use standing::Standing;
 use standing::both_hold;
 ghost use mathlib.Core.Path.{_≡_};

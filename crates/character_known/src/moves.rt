@@ -1,6 +1,6 @@
 // What each event makes of a knowledge.
 use crate::bytes::byte_in;
-use changes::apply;
+use applying::apply;
 use character_knowledge::Control;
 use character_knowledge::FIRST;
 use character_knowledge::IDLE;

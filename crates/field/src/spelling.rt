@@ -1,9 +1,7 @@
 // What five bytes spell.
-use standing::both_hold;
 ghost use mathlib.Core.Path.{_≡_};
-ghost use mathlib.Core.Bool.{_||_};
 ghost use Prim.Native.Nat.{_≤_};
-ghost use Rattle.field.specs.Field.{isDigit, isSign, isTens, isHalf, allDashes, isNumber, digitIn, halfIn, sizeOf, spelled as Field·spelled};
+ghost use Rattle.field.specs.Field.{isDigit, allDashes, isNumber, digitIn, halfIn, sizeOf, spelled as Field·spelled};
 ghost use Rattle.field.specs.Said.{said};
 
 // Five cells in a row.
@@ -47,47 +45,24 @@ pub fn spelled(five: Five) -> Field
 fn all_dashes(five: Five) -> bool
     ensures { λ r. ⌜ r ≡ allDashes five ⌝ }
 {
-    let front = both_hold(five.sign == MINUS, five.tens == MINUS);
-    let back = both_hold(five.point == MINUS, five.half == MINUS);
-    both_hold(both_hold(front, five.units == MINUS), back)
+    let front = (five.sign == MINUS) & (five.tens == MINUS) & (five.units == MINUS);
+    front & ((five.point == MINUS) & (five.half == MINUS))
 }
 
+// Each cell may hold what it holds.
 fn is_number(five: Five) -> bool
     ensures { λ r. ⌜ r ≡ isNumber five ⌝ }
 {
-    let front = both_hold(is_sign(five.sign), is_tens(five.tens));
-    let back = both_hold(five.point == POINT, is_half(five.half));
-    both_hold(both_hold(front, is_digit(five.units)), back)
-}
-
-fn is_sign(byte: u8) -> bool
-    ensures { λ r. ⌜ r ≡ isSign byte ⌝ }
-{
-    either_holds(byte == SPACE, byte == MINUS)
-}
-
-fn is_tens(byte: u8) -> bool
-    ensures { λ r. ⌜ r ≡ isTens byte ⌝ }
-{
-    either_holds(is_digit(byte), byte == SPACE)
+    let sign = (five.sign == SPACE) | (five.sign == MINUS);
+    let tens = is_digit(five.tens) | (five.tens == SPACE);
+    let half = (five.half == 0x30) | (five.half == 0x35);
+    sign & tens & is_digit(five.units) & ((five.point == POINT) & half)
 }
 
 fn is_digit(byte: u8) -> bool
     ensures { λ r. ⌜ r ≡ isDigit byte ⌝ }
 {
-    both_hold(0x30 <= byte, byte <= 0x39)
-}
-
-fn is_half(byte: u8) -> bool
-    ensures { λ r. ⌜ r ≡ isHalf byte ⌝ }
-{
-    either_holds(byte == 0x30, byte == 0x35)
-}
-
-fn either_holds(a: bool, b: bool) -> bool
-    ensures { λ r. ⌜ r ≡ (a || b) ⌝ }
-{
-    if a { true } else { b }
+    (0x30 <= byte) & (byte <= 0x39)
 }
 
 // How many half degrees, whatever the sign.

@@ -1,14 +1,12 @@
 // One code.
 ghost use mathlib.Core.Path.{_≡_};
 ghost use Prim.Native.Nat.{ℕ};
-ghost use lib.Dec.{eqb};
 ghost use lib.Dec.{ltb};
 ghost use Rattle.rules.specs.Choice.{whether};
-ghost use Rattle.rules.specs.Tests.{Tests};
-ghost use Rattle.knowing.specs.Standing.{unknown, Within};
+ghost use Rattle.knowing.specs.Standing.{unknown};
 ghost use Rattle.knowing.specs.Know.{join};
 ghost use Rattle.knowing.specs.Holds.{holds};
-ghost use Rattle.lamps.specs.View.{shown, Wide, told, OfByte, Puts, Meets};
+ghost use Rattle.lamps.specs.View.{shown, Wide, OfByte, Puts, Meets};
 
 // The bits of a width, in both bytes of a code: of a cell, a column, the LED, and a pair or the port.
 pub const EIGHT: u16 = 0xFFFF;
@@ -39,13 +37,7 @@ pub fn code_of(wide: u16, byte: u8) -> u16
 pub fn put_byte(wide: u16, code: u16, byte: u8) -> u16
     ensures { λ r. ⌜ Puts wide byte code r ⌝ }
 {
-    put_code(wide, code, code_of(wide, byte))
-}
-
-fn put_code(wide: u16, code: u16, c: u16) -> u16
-    ensures { λ r. ⌜ ((w b : ℕ) → Wide w wide → OfByte w b c → (k : ℕ) → shown w r k ≡ told w b k (shown w code k)) ⌝ }
-{
-    (code ^ (code & wide)) | c
+    (code ^ (code & wide)) | code_of(wide, byte)
 }
 
 // A code where what the code `c` says may have gone, be it one byte's code or what several have in common: a bit that both know alike stays known, and
@@ -63,24 +55,6 @@ pub fn cut(wide: u16, code: u16) -> u16
     ensures { λ r. ⌜ ((w : ℕ) → Wide w wide → (k : ℕ) → shown w r k ≡ whether (ltb k w) (shown 8 code k) unknown) ⌝ }
 {
     code & wide
-}
-
-// The bits of a code that number 2 rules out: those past the width, and the values where there is no mark. It is a number, so that those of a whole row can
-// be gathered without a branch.
-pub fn wrong_bits(wide: u16, code: u16) -> u16
-    ensures { λ r. ⌜ ((w : ℕ) → Wide w wide → Tests (eqb r 0) ((k : ℕ) → Within 2 (shown w code k))) ⌝ }
-{
-    let past = code ^ (code & wide);
-    let low = code & 255;
-    let unmarked = low ^ (low & (code >> 8));
-    past | unmarked
-}
-
-// Number 2 of one code.
-pub fn lamps_sound(wide: u16, code: u16) -> bool
-    ensures { λ r. ⌜ ((w : ℕ) → Wide w wide → Tests r ((k : ℕ) → Within 2 (shown w code k))) ⌝ }
-{
-    wrong_bits(wide, code) == 0
 }
 
 // This cell of eight bits is known to hold this byte: one function for all that asks this of a cell.

@@ -1,7 +1,6 @@
 // Known or unknown bit by bit, as the memory, the LED and the port are: a code of two bytes for each byte, with the values below and above them the
 // marks of the bits that are known. A bit that is not known is stored as 0, so that the code 0 knows nothing.
 mod code;
-mod rows;
 
 pub use code::EIGHT;
 pub use code::FOUR;
@@ -11,8 +10,5 @@ pub use code::both_lamps;
 pub use code::code_of;
 pub use code::cut;
 pub use code::holds;
-pub use code::lamps_sound;
 pub use code::meet_code;
 pub use code::put_byte;
-pub use rows::all_sound;
-pub use rows::none_known;

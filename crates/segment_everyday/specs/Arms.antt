@@ -25,7 +25,7 @@ use Rattle.changes.specs.Run.{shared-none-past, shared-met-code, shared-cut, me
 use Rattle.walks.specs.Kept.{Kept, kept-read, kept-same}
 use Rattle.walks.specs.Reads.{falls-there, byte-there, rises-there, gap-there}
 use Rattle.walks.specs.Run.{Run, byteOf, kept-run}
-use Rattle.byte_runs.specs.Putting.{PutsRun}
+use Rattle.stored_runs.specs.Putting.{PutsRun}
 use Rattle.byte_runs.specs.Sharing.{Shares}
 use Rattle.segment.specs.declared.chip.Sizes.{Sizes}
 use Rattle.segment.specs.declared.chip.Family.{Family}

@@ -1,14 +1,13 @@
 // The records of every day for PT6312 and PT6315, one behind the other.
 use byte_runs::passed;
-use byte_runs::put_run;
 use byte_runs::shared;
 use changes::forget;
 use changes::meet_one;
+use lamp_tests::none_known;
 use lamps::EIGHT;
 use lamps::FOUR;
 use lamps::code_of;
 use lamps::cut;
-use lamps::none_known;
 use one_record::Everyday;
 use one_record::everyday_at;
 use segment::Command;
@@ -33,6 +32,7 @@ use segment_known::rises;
 use segment_known::stepping_set;
 use segment_known::taken;
 use segment_known::to_mode;
+use stored_runs::put_run;
 use terms::Event;
 use terms::Place;
 ghost use mathlib.Core.Path.{_≡_};

@@ -3,7 +3,7 @@ use crate::bytes::byte_in;
 use crate::latches::keys_latched;
 use crate::latches::switches_latched;
 use crate::reads::byte_out;
-use changes::apply;
+use applying::apply;
 use lamps::EIGHT;
 use lamps::FOUR;
 use lamps::put_byte;

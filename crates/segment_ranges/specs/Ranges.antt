@@ -22,12 +22,14 @@ use Rattle.segment_knowledge.specs.View.{kview}
 abbrev In : Sizes → (Fact → Standing) → Fact → Type 0
 In s k f = Within (range s f) (k f)
 
--- The single facts whose ranges both parts share.
-abbrev pub OthersSound : (Fact → Standing) → Type 0
-OthersSound k = ((Within 8 (k dimming) × Within 2 (k display)) × ((j : ℕ) → Within 2 (k (led j)))) × (Within 5 (k readCount) × Within 4 (k position))
+-- The single facts whose ranges are the part's own: the address, the data mode, the mode and the switches.
+abbrev pub OwnSound : Sizes → Standing → Standing → Standing → Standing → Type 0
+OwnSound s a d m w = ((Within (range s address) a × Within (range s dataMode) d) × Within (range s mode) m) × Within (range s switches) w
 
 abbrev pub SinglesSound : Sizes → (Fact → Standing) → Type 0
-SinglesSound s k = (((In s k address × In s k stepping) × (In s k dataMode × In s k mode)) × In s k switches) × OthersSound k
+SinglesSound s k =
+    ((OwnSound s (k address) (k dataMode) (k mode) (k switches) × ((In s k stepping × In s k dimming) × In s k display)) × ((j : ℕ) → In s k (led j)))
+    × (In s k readCount × In s k position)
 
 -- A row's facts are in range where the first of them are: the others are no facts of the part.
 row-in : (l : List ℕ) (n i : ℕ) → Small l → RowSound l n 256 → Within (whether (ltb i n) 256 lacking) (coded (getD l i 256))
@@ -61,15 +63,16 @@ module _ (s : Sizes) (k : Knowledge) where
 
   pub sound-whole : Small (k .control .keys) → Parts → Sound (range s) (kview k)
   sound-whole tiny p =
-      let a = p .1 .0 in
-      let o = p .1 .1 in
-      every (λ (f : Fact). In s (kview k) f) (λ i j. lamp-in (k .cells) (s .cells) i j (p .0 .0)) (a .0 .0 .0) (a .0 .1 .0) (a .0 .0 .1) (a .0 .1 .1) (o .0 .0 .0) (o .0 .0 .1) (o .0 .1)
-      (λ i. row-in (k .control .keys) (s .keys) i tiny (p .0 .1)) (a .1) (o .1 .0) (o .1 .1)
+      let lit = p .1 .0 in
+      let own = lit .0 .0 in
+      let set = lit .0 .1 in
+      every (λ (f : Fact). In s (kview k) f) (λ i j. lamp-in (k .cells) (s .cells) i j (p .0 .0)) (own .0 .0 .0) (own .0 .0 .1) (set .0 .0) (own .0 .1) (set .0 .1) (set .1) (lit .1)
+      (λ i. row-in (k .control .keys) (s .keys) i tiny (p .0 .1)) (own .1) (p .1 .1 .0) (p .1 .1 .1)
 
   pub sound-parts : Sound (range s) (kview k) → Parts
   sound-parts h = (
     (in-lamps (k .cells) (s .cells) (λ i j. h (cell i j)), in-row (k .control .keys) (s .keys) (λ i. h (key i))),
-    ((((h address, h stepping), (h dataMode, h mode)), h switches), (((h dimming, h display), λ j. h (led j)), (h readCount, h position))),
+    ((((((h address, h dataMode), h mode), h switches), ((h stepping, h dimming), h display)), λ j. h (led j)), (h readCount, h position)),
   )
 
 -- A byte is within what a part lacks.

@@ -24,7 +24,7 @@ use Rattle.terms.specs.declared.Event.the-variants.{ByteIn}
 use Rattle.terms.specs.declared.Part.{Part}
 use Rattle.lamps.specs.Lamp.{wide8, wide4}
 use Rattle.changes.specs.Change.{Changes}
-use Rattle.byte_runs.specs.Putting.{PutsRun}
+use Rattle.stored_runs.specs.Putting.{PutsRun}
 use Rattle.segment.specs.Laws.{room}
 use Rattle.changes.specs.declared.change.Change.the-variants.{Meet}
 use Rattle.segment.specs.declared.chip.Sizes.{Sizes}

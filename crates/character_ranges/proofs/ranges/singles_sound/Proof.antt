@@ -1,6 +1,8 @@
 -- `character_ranges::ranges::singles_sound` meets its contract: the tests together.
 -- Assumes nothing.
+use mathlib.Core.Path.{refl}
 use Rattle.rules.specs.Tests.{both-tell}
+use Rattle.lamps.specs.Lamp.{wide2}
 use borrow.Author.Needs.{needs}
 use Rattle.character_ranges.proofs.ranges.singles_sound.Statement.{statement}
 use Rattle.character_ranges.proofs.ranges.singles_sound.Tie as tie
@@ -11,37 +13,45 @@ pointing-sound-requires c κs = search needs
 pointing-sound-requires-2 : tie.Need-pointing-sound-requires-2
 pointing-sound-requires-2 c κs = search needs
 
-both-hold-requires : tie.Need-both-hold-requires
-both-hold-requires c κs = search needs
-
 pointing-sound-requires-3 : tie.Need-pointing-sound-requires-3
 pointing-sound-requires-3 c κs = search needs
 
 within-requires : tie.Need-within-requires
 within-requires c κs = search needs
 
-both-hold-requires-2 : tie.Need-both-hold-requires-2
-both-hold-requires-2 c κs = search needs
+lamps-sound-requires : tie.Need-lamps-sound-requires
+lamps-sound-requires c κs = search needs
 
-both-hold-requires-3 : tie.Need-both-hold-requires-3
-both-hold-requires-3 c κs = search needs
+within-requires-2 : tie.Need-within-requires-2
+within-requires-2 c κs = search needs
 
-others-sound-requires : tie.Need-others-sound-requires
-others-sound-requires c κs = search needs
+within-requires-3 : tie.Need-within-requires-3
+within-requires-3 c κs = search needs
 
-both-hold-requires-4 : tie.Need-both-hold-requires-4
-both-hold-requires-4 c κs = search needs
+within-requires-4 : tie.Need-within-requires-4
+within-requires-4 c κs = search needs
+
+within-requires-5 : tie.Need-within-requires-5
+within-requires-5 c κs = search needs
 
 returns : tie.Need-returns
-returns c = both-tell (c .both-hold4 .ensures)
-    (both-tell (c .before .before .both-hold3 .ensures)
-    (both-tell (c .before .before .before .before .before .before .both-hold .ensures)
-    (c .before .before .before .before .before .before .before .before .pointing-sound .ensures)
-    (c .before .before .before .before .before .before .before .pointing-sound2 .ensures))
-    (both-tell (c .before .before .before .both-hold2 .ensures)
-    (c .before .before .before .before .before .pointing-sound3 .ensures)
-    (c .before .before .before .before .within .ensures .0)))
-    (c .before .others-sound .ensures)
+returns c =
+    let lights = c .before in
+    let digits = lights .before in
+    let duty = digits .before in
+    let port = duty .before in
+    let column = port .before in
+    let glyph = column .before in
+    let mark = glyph .before in
+    both-tell refl
+    (both-tell refl
+    (both-tell refl
+    (both-tell refl (mark .before .pointing-sound .ensures) (mark .pointing-sound2 .ensures))
+    (both-tell refl (glyph .pointing-sound3 .ensures) (column .within .ensures .0)))
+    (both-tell refl
+    (both-tell refl (both-tell refl (port .lamps-sound .ensures 2 wide2) (duty .within2 .ensures .0)) (digits .within3 .ensures .0))
+    (lights .within4 .ensures .0)))
+    (c .within5 .ensures .0)
 
 pub singles-sound-spec : {M : Type 1} → statement M
 singles-sound-spec =
@@ -49,11 +59,11 @@ singles-sound-spec =
     (tie.spec
     pointing-sound-requires
     pointing-sound-requires-2
-    both-hold-requires
     pointing-sound-requires-3
     within-requires
-    both-hold-requires-2
-    both-hold-requires-3
-    others-sound-requires
-    both-hold-requires-4
+    lamps-sound-requires
+    within-requires-2
+    within-requires-3
+    within-requires-4
+    within-requires-5
     returns)

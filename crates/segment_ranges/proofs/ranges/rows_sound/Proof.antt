@@ -1,7 +1,9 @@
 -- `segment_ranges::ranges::rows_sound` meets its contract: each arm's numbers are the sizes of its part, and both tests together are both rows in range.
 -- Assumes nothing.
+use mathlib.Core.Path.{refl}
 use Rattle.segment.specs.Family.{sizes}
 use Rattle.rules.specs.Tests.{both-tell}
+use Rattle.lamps.specs.Lamp.{wide8}
 use borrow.Author.Needs.{needs}
 use Rattle.segment_ranges.proofs.ranges.rows_sound.Statement.{statement}
 use Rattle.segment_ranges.proofs.ranges.rows_sound.Tie as tie
@@ -9,54 +11,60 @@ use Rattle.segment_ranges.proofs.ranges.rows_sound.Tie as tie
 enum-told : tie.Need-enum-told
 enum-told c = search needs
 
-cells-sound-requires : tie.Need-cells-sound-requires
-cells-sound-requires c κs = search needs
+slice-aggregate-all-sound : tie.Need-slice-aggregate-all-sound
+slice-aggregate-all-sound c = search needs
 
-keys-sound-requires : tie.Need-keys-sound-requires
-keys-sound-requires c κs = search needs
+all-sound-requires : tie.Need-all-sound-requires
+all-sound-requires c κs = search needs
 
-both-hold-requires : tie.Need-both-hold-requires
-both-hold-requires c κs = search needs
+slice-aggregate-all-within : tie.Need-slice-aggregate-all-within
+slice-aggregate-all-within c = search needs
+
+all-within-requires : tie.Need-all-within-requires
+all-within-requires c κs = search needs
 
 enum-told-2 : tie.Need-enum-told-2
 enum-told-2 c = search needs
 
-cells-sound-requires-2 : tie.Need-cells-sound-requires-2
-cells-sound-requires-2 c κs = search needs
+slice-aggregate-all-sound-2 : tie.Need-slice-aggregate-all-sound-2
+slice-aggregate-all-sound-2 c = search needs
 
-keys-sound-requires-2 : tie.Need-keys-sound-requires-2
-keys-sound-requires-2 c κs = search needs
+all-sound-requires-2 : tie.Need-all-sound-requires-2
+all-sound-requires-2 c κs = search needs
 
-both-hold-requires-2 : tie.Need-both-hold-requires-2
-both-hold-requires-2 c κs = search needs
+slice-aggregate-all-within-2 : tie.Need-slice-aggregate-all-within-2
+slice-aggregate-all-within-2 c = search needs
+
+all-within-requires-2 : tie.Need-all-within-requires-2
+all-within-requires-2 c κs = search needs
 
 returns : tie.Need-returns
 unfolding sizes
 returns c =
-    let keys = c .before in
-    let cells = keys .before in
-    rw (cells .before .enum-told .given .1)
-    (both-tell (c .both-hold .ensures) (cells .cells-sound .ensures) (keys .keys-sound .ensures .0), keys .keys-sound .ensures .1)
+    let cells = c .before .before in
+    rw (cells .before .before .enum-told .given .1)
+    (both-tell refl (cells .all-sound .ensures 8 wide8) (c .all-within .ensures .0), c .all-within .ensures .1)
 
 returns-2 : tie.Need-returns-2
 unfolding sizes
 returns-2 c =
-    let keys = c .before in
-    let cells = keys .before in
-    rw (cells .before .enum-told2 .given .1)
-    (both-tell (c .both-hold2 .ensures) (cells .cells-sound2 .ensures) (keys .keys-sound2 .ensures .0), keys .keys-sound2 .ensures .1)
+    let cells = c .before .before in
+    rw (cells .before .before .enum-told2 .given .1)
+    (both-tell refl (cells .all-sound2 .ensures 8 wide8) (c .all-within2 .ensures .0), c .all-within2 .ensures .1)
 
 pub rows-sound-spec : {M : Type 1} → statement M
 rows-sound-spec =
     tie.close
     (tie.spec
     enum-told
-    cells-sound-requires
-    keys-sound-requires
-    both-hold-requires
+    slice-aggregate-all-sound
+    all-sound-requires
+    slice-aggregate-all-within
+    all-within-requires
     enum-told-2
-    cells-sound-requires-2
-    keys-sound-requires-2
-    both-hold-requires-2
+    slice-aggregate-all-sound-2
+    all-sound-requires-2
+    slice-aggregate-all-within-2
+    all-within-requires-2
     returns
     returns-2)
