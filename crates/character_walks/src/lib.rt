@@ -58,24 +58,25 @@ pub fn character_walk(part: Part, k: Knowledge, bytes: &[u8]) -> CharacterWalked
     let mut control = k.control;
     let mut i = 0;
     while i < bytes.len() {
-        let day = everyday_at(bytes, Place(i));
+        let at = Place(i);
+        let day = everyday_at(bytes, at);
         match day {
             Everyday::Falls => {
                 control = falls(control);
                 i += 1;
             }
             Everyday::Strobe(byte) => {
-                let begun = falls(control);
+                control = falls(control);
                 let command = command_of(byte);
                 match command {
-                    Command::Dcram(address) => control = show_from(begun, address),
-                    Command::Cgram(address) => control = draw_from(begun, address),
-                    Command::Adram(address) => control = mark_from(begun, address),
-                    Command::Port(bits) => control = port_set(begun, bits),
-                    Command::Duty(duty) => control = duty_set(begun, duty),
-                    Command::Digits(digits) => control = digits_set(begun, digits),
-                    Command::Light(lights) => control = lights_set(begun, lights),
-                    Command::Nothing => control = ignoring_on(begun),
+                    Command::Dcram(address) => control = show_from(control, address),
+                    Command::Cgram(address) => control = draw_from(control, address),
+                    Command::Adram(address) => control = mark_from(control, address),
+                    Command::Port(bits) => control = port_set(control, bits),
+                    Command::Duty(duty) => control = duty_set(control, duty),
+                    Command::Digits(digits) => control = digits_set(control, digits),
+                    Command::Light(lights) => control = lights_set(control, lights),
+                    Command::Nothing => control = ignoring_on(control),
                     Command::Undefined => {
                         control = undefined_in();
                         forget_all(&mut dcram, &mut cgram, &mut adram);
@@ -91,21 +92,21 @@ pub fn character_walk(part: Part, k: Knowledge, bytes: &[u8]) -> CharacterWalked
                 let to = goes_to(control);
                 match to {
                     Target::Shown(cell) => {
-                        let n = put_run(&mut dcram, EIGHT, cell, 16, bytes, Place(i));
+                        let n = put_run(&mut dcram, EIGHT, cell, 16, bytes, at);
                         control = shown_by(control, cell, n);
                         i += 2 * n;
                     }
                     Target::Drawn(cell) => {
-                        let n = put_run(&mut cgram, SEVEN, cell, 40, bytes, Place(i));
+                        let n = put_run(&mut cgram, SEVEN, cell, 40, bytes, at);
                         control = drawn_by(control, cell, n);
                         i += 2 * n;
                     }
                     Target::Marked(cell) => {
-                        let n = put_run(&mut adram, TWO, cell, 16, bytes, Place(i));
+                        let n = put_run(&mut adram, TWO, cell, 16, bytes, at);
                         control = marked_by(control, cell, n);
                         i += 2 * n;
                     }
-                    Target::Nowhere => i += 2 * passed(bytes, Place(i)),
+                    Target::Nowhere => i += 2 * passed(bytes, at),
                     Target::Elsewhere => {
                         let n = stray_run(
                             control,
@@ -113,7 +114,7 @@ pub fn character_walk(part: Part, k: Knowledge, bytes: &[u8]) -> CharacterWalked
                             &mut cgram,
                             &mut adram,
                             bytes,
-                            Place(i),
+                            at,
                         );
                         if n == 0 {
                             let event = Event::ByteIn(byte);
@@ -131,7 +132,7 @@ pub fn character_walk(part: Part, k: Knowledge, bytes: &[u8]) -> CharacterWalked
                 i += 1;
             }
             Everyday::Other => {
-                let read = record_at(part, bytes, Place(i));
+                let read = record_at(part, bytes, at);
                 match read {
                     Read::Is(event, length) => {
                         control = taken(control, &mut dcram, &mut cgram, &mut adram, event);
@@ -139,7 +140,7 @@ pub fn character_walk(part: Part, k: Knowledge, bytes: &[u8]) -> CharacterWalked
                     }
                     Read::Refused(refusal) => {
                         return CharacterWalked {
-                            ending: stops_at(refusal, bytes, Place(i)),
+                            ending: stops_at(refusal, bytes, at),
                             k: Knowledge {
                                 dcram,
                                 cgram,
