@@ -108,14 +108,7 @@ pub fn character_walk(part: Part, k: Knowledge, bytes: &[u8]) -> CharacterWalked
                     }
                     Target::Nowhere => i += 2 * passed(bytes, at),
                     Target::Elsewhere => {
-                        let n = stray_run(
-                            control,
-                            &mut dcram,
-                            &mut cgram,
-                            &mut adram,
-                            bytes,
-                            at,
-                        );
+                        let n = stray_run(control, &mut dcram, &mut cgram, &mut adram, bytes, at);
                         if n == 0 {
                             let event = Event::ByteIn(byte);
                             control = taken(control, &mut dcram, &mut cgram, &mut adram, event);

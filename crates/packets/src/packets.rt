@@ -25,14 +25,21 @@ ghost use Rattle.terms.specs.Part.{partOf};
 ghost use Rattle.account.specs.Bytes.{bytesOf, wholeOf};
 ghost use Rattle.account.specs.Begun.{Begun};
 ghost use Rattle.feed.specs.Feed.{Good};
-ghost use Rattle.packets.specs.Takes.{ReadsWith, Reads, TakesPart, Takes};
+ghost use Rattle.packets.specs.Takes.{ReadsWith, Reads, Takes};
 
+// Test 1, then tests 2, the standing refusal and 4, then the records.
 pub fn taken(part: u8, feed: Feed, packet: &[u8]) -> Taken
     ensures { λ r. ⌜ Takes (partOf part) feed (now (packet .entry)) r ⌝ }
 {
-    let read = part_of(part);
-    match read {
-        PartRead::Is(is) => taken_by(is, feed, packet),
+    let named = part_of(part);
+    match named {
+        PartRead::Is(is) => {
+            let tried = tried(is, feed, packet.len());
+            match tried {
+                Trial::Passed => read(is, feed, packet),
+                Trial::Refused(answer) => Taken { answer, feed },
+            }
+        }
         PartRead::Refused(at) => Taken {
             answer: Answer::NoPart(at),
             feed,
@@ -40,17 +47,7 @@ pub fn taken(part: u8, feed: Feed, packet: &[u8]) -> Taken
     }
 }
 
-// Tests 2, the standing refusal and 4, then the records.
-fn taken_by(part: Part, feed: Feed, packet: &[u8]) -> Taken
-    ensures { λ r. ⌜ TakesPart part feed (now (packet .entry)) r ⌝ }
-{
-    let tried = tried(part, feed, packet.len());
-    match tried {
-        Trial::Passed => read(part, feed, packet),
-        Trial::Refused(answer) => Taken { answer, feed },
-    }
-}
-
+// Where a record was begun, it is with the packet still too short, or whole.
 fn read(part: Part, feed: Feed, packet: &[u8]) -> Taken
     requires { ⌜ (Good part feed) × (feed .total + length (now packet) ≤ 4294967295) ⌝ }
     ensures { λ r. ⌜ Reads part feed (now (packet .entry)) r ⌝ }
@@ -58,18 +55,11 @@ fn read(part: Part, feed: Feed, packet: &[u8]) -> Taken
     let panel = feed.panel;
     let unfinished = feed.unfinished;
     let total = feed.total;
-    if count_of(unfinished) == 0 {
+    let count = count_of(unfinished);
+    if count == 0 {
         return read_from(part, panel, total, packet, 0);
     }
-    read_joined(part, panel, unfinished, total, packet)
-}
-
-// A record was begun: with the packet it is still too short, or whole.
-fn read_joined(part: Part, panel: Panel, unfinished: Unfinished, total: u32, packet: &[u8]) -> Taken
-    requires { ⌜ (Begun part (bytesOf unfinished) total) × (total + length (now packet) ≤ 4294967295) ⌝ }
-    ensures { λ r. ⌜ ReadsWith part panel unfinished total (now (packet .entry)) r ⌝ }
-{
-    let from = whole_of(unfinished) - count_of(unfinished);
+    let from = whole_of(unfinished) - count;
     if packet.len() < from {
         return with_panel(panel, put_off(unfinished, total, packet));
     }
