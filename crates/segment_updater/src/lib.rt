@@ -11,7 +11,6 @@ use terms::Address;
 use terms::Place;
 use updating::Updated;
 ghost use mathlib.Core.Path.{_≡_};
-ghost use mathlib.Core.Bool.{not, _&&_};
 ghost use Prim.Native.Nat.{ℕ, _+_, _*_, _≤_, _<_};
 ghost use lib.ListN.{length};
 ghost use lib.Seq.{sets};
@@ -46,14 +45,11 @@ pub fn is_set(control: Control) -> bool
 {
     let mode = control.data;
     let step = control.stepping;
-    if is_known(mode, WRITE_DISPLAY) {
-        is_known(step, INCREMENT)
-    } else {
-        false
-    }
+    is_known(mode, WRITE_DISPLAY) & is_known(step, INCREMENT)
 }
 
-// Of the first n cells. A byte that goes over the wire is a record of two bytes, and each strobe has two more, its fall and its rise.
+// Of the first n cells. 40H goes first where the setting is not known, unless nothing differs. A byte that goes over the wire is a record of two bytes, and each
+// strobe has two more, its fall and its rise.
 pub fn send(n: usize, codes: &[u16], set: bool, wanted: &[u8], out: &mut [u8]) -> Sending
     requires { ⌜ (0 < n) × (n ≤ 64) × (n ≤ length (now codes)) × (n ≤ length (now wanted)) ⌝ }
     ensures { λ r. ⌜ Sends n (differ (now (codes .entry)) (now (wanted .entry))) set (now (wanted .entry)) (now (out .entry)) (r .answer) (now (out .exit))
@@ -62,8 +58,8 @@ pub fn send(n: usize, codes: &[u16], set: bool, wanted: &[u8], out: &mut [u8]) -
     let found = look_over(codes, wanted, n);
     let cells = found.cells;
     let runs = found.runs;
-    let setting = needs_setting(set, cells);
-    let first = one_if(setting);
+    let setting = !set & (cells != 0);
+    let first = setting as usize;
     let size = 2 * cells + 4 * (runs + first);
     if out.len() < size {
         return Sending {
@@ -88,19 +84,6 @@ fn behind_last(cells: usize, end: Address) -> Behind
     } else {
         Behind::Cell(end)
     }
-}
-
-// 40H goes first where the setting is not known, unless nothing differs.
-fn needs_setting(set: bool, cells: usize) -> bool
-    ensures { λ r. ⌜ r ≡ (not set && not (eqb cells 0)) ⌝ }
-{
-    if set { false } else { cells != 0 }
-}
-
-fn one_if(yes: bool) -> usize
-    ensures { λ r. ⌜ r ≡ whether yes 1 0 ⌝ }
-{
-    if yes { 1 } else { 0 }
 }
 
 // The 40H strobe at the front, if it is needed; the place behind it.
