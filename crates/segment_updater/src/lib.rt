@@ -2,26 +2,19 @@
 // cells that differ, and where it ended.
 use runs::look_over;
 use runs::write_runs;
-use segment_knowledge::Control;
-use segment_knowledge::INCREMENT;
-use segment_knowledge::WRITE_DISPLAY;
-use standing::is_known;
 use strobes::write_single;
 use terms::Address;
 use terms::Place;
 use updating::Updated;
 ghost use mathlib.Core.Path.{_≡_};
-ghost use Prim.Native.Nat.{ℕ, _+_, _*_, _≤_, _<_};
+ghost use Prim.Native.Nat.{_+_, _*_, _≤_, _<_};
 ghost use lib.ListN.{length};
 ghost use lib.Seq.{sets};
 ghost use lib.Dec.{eqb};
 ghost use Rattle.rules.specs.Choice.{whether};
-ghost use Rattle.knowing.specs.Standing.{Standing as Of·Standing};
 ghost use Rattle.terms.specs.Event.{recording, strobe};
 ghost use mathlib.Core.List.{[], _∷_};
-ghost use Rattle.segment_knowledge.specs.View.{cview};
 ghost use Rattle.runs.specs.Survey.{differ};
-ghost use Rattle.updating.specs.Update.{isSet};
 ghost use Rattle.updating.specs.Answer.{number};
 ghost use Rattle.segment_updater.specs.declared.Behind.the-variants.{Cell, NothingSent};
 ghost use Rattle.segment_updater.specs.Sends.{Sends, behindOf};
@@ -37,15 +30,6 @@ pub enum Behind {
 pub struct Sending {
     pub answer: Updated,
     pub behind: Behind,
-}
-
-// The data setting is known to be write display and increment.
-pub fn is_set(control: Control) -> bool
-    ensures { λ r. ⌜ ((cells : ℕ → ℕ → Of·Standing) → r ≡ isSet (cview cells control)) ⌝ }
-{
-    let mode = control.data;
-    let step = control.stepping;
-    is_known(mode, WRITE_DISPLAY) & is_known(step, INCREMENT)
 }
 
 // Of the first n cells. 40H goes first where the setting is not known, unless nothing differs. A byte that goes over the wire is a record of two bytes, and each

@@ -1,10 +1,10 @@
--- `segment_updater::is_set` meets its contract: both tests together.
+-- `updating::is_set` meets its contract: both tests together.
 -- Assumes nothing.
 use mathlib.Core.Bool.{_&&_}
 use mathlib.Core.Path.{ap₂}
 use borrow.Author.Needs.{needs}
-use Rattle.segment_updater.proofs.is_set.Statement.{statement}
-use Rattle.segment_updater.proofs.is_set.Tie as tie
+use Rattle.updating.proofs.is_set.Statement.{statement}
+use Rattle.updating.proofs.is_set.Tie as tie
 
 is-known-requires : tie.Need-is-known-requires
 is-known-requires c κs = search needs
