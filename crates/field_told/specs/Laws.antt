@@ -1,12 +1,19 @@
 -- What is told of a field, by the tests that come first.
 use Prim.Native.Nat.{ℕ}
 use mathlib.Core.Path.{_≡_, refl, sym}
-use mathlib.Core.Bool.{true, false, true≢false}
+use mathlib.Core.Bool.{Bool, true, false, _||_, true≢false}
 use Rattle.knowing.specs.Standing as Of
 use Rattle.knowing.specs.Standing.{Standing}
 use Rattle.field.specs.Said.{dark, unknown}
 use Rattle.field.specs.Field.{spelled, isDark, ifKnown, ifAll, told}
-use Rattle.field_told.specs.Cells.{eitherUnknown}
+
+-- Lights or digits are not known.
+abbrev pub isUnknown : Standing → Bool
+isUnknown (Of.known v) = false
+isUnknown Of.unknown = true
+
+abbrev pub eitherUnknown : Standing → Standing → Bool
+eitherUnknown lights digits = isUnknown lights || isUnknown digits
 
 module _ (lights digits : Standing) (cell : ℕ → Standing) (start : ℕ) where
   pub told-dark : isDark lights digits start ≡ true → told lights digits cell start ≡ dark

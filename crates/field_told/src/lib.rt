@@ -1,5 +1,4 @@
 // What is told of a temperature field (paper 02, M-103): dark, then unknown, then what its five cells spell.
-mod cells;
 mod telling;
 
 pub use telling::tell;

@@ -1,8 +1,8 @@
 // What is told of a field.
-use crate::cells::Row;
-use crate::cells::five_at;
 use field::Field;
 use field::spelled;
+use field_cells::Row;
+use field_cells::five_at;
 use field_dark::is_dark;
 use standing::Standing;
 use terms::Address;
@@ -11,7 +11,8 @@ ghost use Prim.Native.Nat.{_≤_};
 ghost use Rattle.standing.specs.View.{stands};
 ghost use Rattle.field.specs.Said.{said};
 ghost use Rattle.field.specs.Field.{told};
-ghost use Rattle.field_told.specs.Cells.{byteAt, eitherUnknown};
+ghost use Rattle.field_cells.specs.Cells.{byteAt};
+ghost use Rattle.field_told.specs.Laws.{eitherUnknown};
 
 // Dark is tested first, then whether all is known, then what the cells spell.
 pub fn tell(lights: Standing, digits: Standing, dcram: [u16; 16], start: Address) -> Field

@@ -31,8 +31,8 @@ use Rattle.field.specs.declared.spelling.Five.{Five}
 use Rattle.field.specs.Said.{Said, reading, noReading, unknown, notAReading}
 use Rattle.field.specs.Field.{minus, inUse, last, isDark, allDashes, isNumber, sizeOf, ifAll, spelled}
 use Rattle.field.specs.Laws.{Bytes, number-bytes, size-small, spells-none, spells-number, spells-nothing}
-use Rattle.field_told.specs.Cells.{eitherUnknown, no-cell}
-use Rattle.field_told.specs.Laws.{told-unknown, told-cells}
+use Rattle.field_cells.specs.Cells.{no-cell}
+use Rattle.field_told.specs.Laws.{eitherUnknown, told-unknown, told-cells}
 use Rattle.thermometer.specs.declared.temperatures.Answer.{Answer}
 use Rattle.thermometer.specs.declared.temperatures.Answer.the-variants.{Reading}
 use Rattle.thermometer.specs.Answer.{number, Says, Reads, Answers, cellOf, byteOf, temperatureOf, TellsSound, Tells}

@@ -8,6 +8,7 @@ use mathlib.Core.List.{List, [], _∷_, _++_}
 use lib.ListN.{length, length-append, drop}
 use lib.Seq.{sets, sets-eq}
 use lib.Dec.{eqb}
+use mir.Val.{boolByte}
 use Rattle.rules.specs.Choice.{whether}
 use Rattle.rules.specs.Where.{Where}
 use Rattle.writing.specs.Sets.{sets-append}
@@ -79,11 +80,14 @@ module _ (n : ℕ) (d : ℕ → Bool) (set : Bool) (w : List ℕ) (some : 0 < n)
     pub first-is : first ≡ whether (needs40 n d set) 1 0
     pub setting-is : setting ≡ needs40 n d set
 
-  pub told : (r : Survey) (setting : Bool) (first : ℕ) → Surveyed n d r → setting ≡ (not set && not (eqb (r .cells) 0)) → first ≡ whether setting 1 0
-      → Told (r .cells) (r .runs) first setting
-  told r setting first s e f =
-      let z : setting ≡ needs40 n d set = e ∙ ap (λ (k : ℕ). not set && not (eqb k 0)) (s .cells) in
-      record { cells-are = s .cells; runs-are = s .runs; first-is = f ∙ ap (λ (t : Bool). whether t 1 0) z; setting-is = z }
+  pub told : (r : Survey) → Surveyed n d r → Told (r .cells) (r .runs) (boolByte (not set && not (eqb (r .cells) 0))) (not set && not (eqb (r .cells) 0))
+  told r s =
+      let z : (not set && not (eqb (r .cells) 0)) ≡ needs40 n d set = ap (λ (k : ℕ). not set && not (eqb k 0)) (s .cells) in
+      record { cells-are = s .cells; runs-are = s .runs; first-is = one-if (not set && not (eqb (r .cells) 0)) ∙ ap (λ (t : Bool). whether t 1 0) z; setting-is = z }
+    where
+      one-if : (t : Bool) → boolByte t ≡ whether t 1 0
+      one-if true = refl
+      one-if false = refl
 
   module _ (cells runs first : ℕ) (setting : Bool) (t : Told cells runs first setting) where
     pub told-most : (cells ≤ n) × (runs ≤ n) × (first ≤ 1)

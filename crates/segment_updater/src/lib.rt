@@ -2,27 +2,19 @@
 // cells that differ, and where it ended.
 use runs::look_over;
 use runs::write_runs;
-use segment_knowledge::Control;
-use segment_knowledge::INCREMENT;
-use segment_knowledge::WRITE_DISPLAY;
-use standing::is_known;
 use strobes::write_single;
 use terms::Address;
 use terms::Place;
 use updating::Updated;
 ghost use mathlib.Core.Path.{_≡_};
-ghost use mathlib.Core.Bool.{not, _&&_};
-ghost use Prim.Native.Nat.{ℕ, _+_, _*_, _≤_, _<_};
+ghost use Prim.Native.Nat.{_+_, _*_, _≤_, _<_};
 ghost use lib.ListN.{length};
 ghost use lib.Seq.{sets};
 ghost use lib.Dec.{eqb};
 ghost use Rattle.rules.specs.Choice.{whether};
-ghost use Rattle.knowing.specs.Standing.{Standing as Of·Standing};
 ghost use Rattle.terms.specs.Event.{recording, strobe};
 ghost use mathlib.Core.List.{[], _∷_};
-ghost use Rattle.segment_knowledge.specs.View.{cview};
 ghost use Rattle.runs.specs.Survey.{differ};
-ghost use Rattle.updating.specs.Update.{isSet};
 ghost use Rattle.updating.specs.Answer.{number};
 ghost use Rattle.segment_updater.specs.declared.Behind.the-variants.{Cell, NothingSent};
 ghost use Rattle.segment_updater.specs.Sends.{Sends, behindOf};
@@ -40,20 +32,8 @@ pub struct Sending {
     pub behind: Behind,
 }
 
-// The data setting is known to be write display and increment.
-pub fn is_set(control: Control) -> bool
-    ensures { λ r. ⌜ ((cells : ℕ → ℕ → Of·Standing) → r ≡ isSet (cview cells control)) ⌝ }
-{
-    let mode = control.data;
-    let step = control.stepping;
-    if is_known(mode, WRITE_DISPLAY) {
-        is_known(step, INCREMENT)
-    } else {
-        false
-    }
-}
-
-// Of the first n cells. A byte that goes over the wire is a record of two bytes, and each strobe has two more, its fall and its rise.
+// Of the first n cells. 40H goes first where the setting is not known, unless nothing differs. A byte that goes over the wire is a record of two bytes, and each
+// strobe has two more, its fall and its rise.
 pub fn send(n: usize, codes: &[u16], set: bool, wanted: &[u8], out: &mut [u8]) -> Sending
     requires { ⌜ (0 < n) × (n ≤ 64) × (n ≤ length (now codes)) × (n ≤ length (now wanted)) ⌝ }
     ensures { λ r. ⌜ Sends n (differ (now (codes .entry)) (now (wanted .entry))) set (now (wanted .entry)) (now (out .entry)) (r .answer) (now (out .exit))
@@ -62,8 +42,8 @@ pub fn send(n: usize, codes: &[u16], set: bool, wanted: &[u8], out: &mut [u8]) -
     let found = look_over(codes, wanted, n);
     let cells = found.cells;
     let runs = found.runs;
-    let setting = needs_setting(set, cells);
-    let first = one_if(setting);
+    let setting = !set & (cells != 0);
+    let first = setting as usize;
     let size = 2 * cells + 4 * (runs + first);
     if out.len() < size {
         return Sending {
@@ -88,19 +68,6 @@ fn behind_last(cells: usize, end: Address) -> Behind
     } else {
         Behind::Cell(end)
     }
-}
-
-// 40H goes first where the setting is not known, unless nothing differs.
-fn needs_setting(set: bool, cells: usize) -> bool
-    ensures { λ r. ⌜ r ≡ (not set && not (eqb cells 0)) ⌝ }
-{
-    if set { false } else { cells != 0 }
-}
-
-fn one_if(yes: bool) -> usize
-    ensures { λ r. ⌜ r ≡ whether yes 1 0 ⌝ }
-{
-    if yes { 1 } else { 0 }
 }
 
 // The 40H strobe at the front, if it is needed; the place behind it.

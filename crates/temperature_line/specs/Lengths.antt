@@ -1,25 +1,17 @@
 -- No line is longer than the room that is asked for, and every answer has one line.
-use Prim.Native.Nat.{ℕ, suc, _+_, _*_, _/_, _%_, _≤_}
-use Prim.Native.Char.{code}
+use Prim.Native.Nat.{ℕ, _≤_}
 use native.Mathlib.Omega.{arith}
 use mathlib.Core.Path.{_≡_, sym, ap, _∙_}
 use mathlib.Core.List.{List, [], _∷_, _++_}
 use lib.ListN.{length, length-append}
-use lib.IntN.{ℤ, pos, negsuc}
-use Rattle.text.specs.Text.{newline, decimal}
-use Rattle.text.specs.Decimal.{decimal-length}
+use lib.IntN.{ℤ}
+use Rattle.text.specs.Text.{newline}
 use Rattle.refusals.specs.Refusal.{refused-length}
 use Rattle.half_degrees.specs.Laws.{one-number}
+use Rattle.degrees.specs.Degrees.{degrees, degrees-length}
 use Rattle.thermometer.specs.declared.temperatures.Answer.{Answer}
 use Rattle.thermometer.specs.declared.temperatures.Answer.the-variants.{Reading, NoReading, Dark, Unknown, NotAReading, NoPart, OutOfRange, NoField}
-use Rattle.temperature_line.specs.Line.{sized, degrees, Lined, room}
-
-sized-length : (n : ℕ) → length (sized n) ≤ 22
-sized-length n = omega (arith, length-append (decimal (n / 2)) (code "." ∷ (code "0" + 5 * (n % 2)) ∷ []), decimal-length (n / 2))
-
-degrees-length : (h : ℤ) → length (degrees h) ≤ 23
-degrees-length (pos n) = let x = sized-length n in omega arith
-degrees-length (negsuc n) = omega (arith, sized-length (suc n), length-append (code "-" ∷ []) (sized (suc n)))
+use Rattle.temperature_line.specs.Line.{Lined, room}
 
 pub line-length : (a : Answer) (line : List ℕ) → Lined a line → length line ≤ room
 line-length (Reading f) line (h, v, e) = omega (arith, ap length e, length-append (degrees h) (newline ∷ []), degrees-length h)

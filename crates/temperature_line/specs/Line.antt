@@ -1,30 +1,19 @@
 -- What is printed of a temperature: the degrees of a reading, or in words why there is none; "a refusal prints only
 -- `refused N at P`".
-use Prim.Native.Nat.{ℕ, suc, _+_, _*_, _/_, _%_}
+use Prim.Native.Nat.{ℕ}
 use Prim.Native.Char.{code}
-use mathlib.Core.Path.{_≡_, refl, subst, subst⁻¹}
-use mathlib.Core.Bool.{true}
+use mathlib.Core.Path.{_≡_, refl, subst⁻¹}
 use mathlib.Core.List.{List, [], _∷_, _++_}
-use lib.IntN.{ℤ, pos, negsuc}
+use lib.IntN.{ℤ}
 use lib.Ieee.{Float}
-use lib.Ieee.Exact.{HasValue}
 use Rattle.writing.specs.Writes.{Writes}
 use Rattle.writing.specs.Prints.{Prints}
-use Rattle.text.specs.Text.{newline, decimal}
+use Rattle.text.specs.Text.{newline}
 use Rattle.refusals.specs.Refusal.{refusedAt}
 use Rattle.half_degrees.specs.Half.{signed, InHalves, Halved}
-use Rattle.half_degrees.specs.Laws.{under-nought}
+use Rattle.degrees.specs.Degrees.{degrees}
 use Rattle.thermometer.specs.declared.temperatures.Answer.{Answer}
 use Rattle.thermometer.specs.declared.temperatures.Answer.the-variants.{Reading, NoReading, Dark, Unknown, NotAReading, NoPart, OutOfRange, NoField}
-
--- So many half degrees: whole degrees, a point, and 0 or 5.
-abbrev pub sized : ℕ → List ℕ
-sized n = decimal (n / 2) ++ (code "." ∷ (code "0" + 5 * (n % 2)) ∷ [])
-
--- The same with a minus, where they are below nought.
-abbrev pub degrees : ℤ → List ℕ
-degrees (pos n) = sized n
-degrees (negsuc n) = (code "-" ∷ []) ++ sized (suc n)
 
 -- The line of each answer.
 abbrev pub Lined : Answer → List ℕ → Type 0
@@ -81,23 +70,6 @@ pub record WritesLine (answer : Answer) (out : List ℕ) (r : ℕ) (out′ : Lis
   pub line : List ℕ
   pub lined : Lined answer line
   pub written : Writes out 0 line r out′
-
--- So do the degrees of a float that is some half degrees.
-pub record Degrees (f : Float) (out : List ℕ) (r : ℕ) (out′ : List ℕ) : Type 0 where
-  pub halves : ℤ
-  pub exact : InHalves f halves
-  pub written : Writes out 0 (degrees halves) r out′
-
--- A minus and the size of a float below nought are its degrees.
-pub written-under : {out : List ℕ} {r : ℕ} {out′ : List ℕ} (f : Float) (n : ℕ) → Halved f → HasValue f true n 2
-    → Writes out 0 ((code "-" ∷ []) ++ sized n) r out′ → Degrees f out r out′
-written-under {out} {r} {out′} f n w v h =
-    let u = under-nought f n w v in
-    record {
-      halves = negsuc (u .0);
-      exact = u .2;
-      written = subst (λ (k : ℕ). Writes out 0 ((code "-" ∷ []) ++ sized k) r out′) (u .1) h;
-    }
 
 -- Enough for every line.
 abbrev pub room : ℕ

@@ -1,16 +1,13 @@
 // The line that is printed of a temperature.
-use half_degrees::halves_of;
+use degrees::write_degrees;
 use refusals::refused;
 use terms::Place;
-use text::decimal;
 use thermometer::Answer;
 use writing::put;
 use writing::words;
-ghost use Rattle.writing.specs.Writes.{Writes};
 ghost use Rattle.writing.specs.Prints.{Prints};
 ghost use Rattle.refusals.specs.Refusal.{refusedAt};
-ghost use Rattle.half_degrees.specs.Half.{Halved};
-ghost use Rattle.temperature_line.specs.Line.{sized, Degrees, Printable, WritesLine, room, PrintsLine};
+ghost use Rattle.temperature_line.specs.Line.{Printable, WritesLine, room, PrintsLine};
 
 // Enough for every line.
 pub const ROOM: usize = 64;
@@ -55,27 +52,4 @@ fn write_said(answer: Answer, out: &mut [u8]) -> usize
         Answer::OutOfRange(at) => refused(out, 2, at),
         Answer::NoField(at) => refused(out, 11, at),
     }
-}
-
-// Degrees for people.
-fn write_degrees(degrees: f32, out: &mut [u8]) -> usize
-    requires { ⌜ Halved degrees ⌝ }
-    ensures { λ r. ⌜ Degrees degrees (now (out .entry)) r (now (out .exit)) ⌝ }
-{
-    let halves = halves_of(degrees);
-    let size = halves.1;
-    if halves.0 {
-        let begun = put(out, 0, b'-');
-        return write_size(out, begun, size);
-    }
-    write_size(out, 0, size)
-}
-
-// Whole degrees, a point, and 0 or 5.
-fn write_size(out: &mut [u8], at: usize, halves: u8) -> usize
-    ensures { λ r. ⌜ Writes (now (out .entry)) at (sized halves) r (now (out .exit)) ⌝ }
-{
-    let whole = decimal(out, at, (halves / 2) as usize);
-    let pointed = put(out, whole, b'.');
-    put(out, pointed, 48 + 5 * (halves % 2))
 }

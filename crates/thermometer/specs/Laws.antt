@@ -12,7 +12,7 @@ use Rattle.character_knowledge.specs.declared.knowledge.Knowledge.{Knowledge}
 use Rattle.character_knowledge.specs.View.{kview}
 use Rattle.panel.specs.declared.knowledge.Panel.{Panel}
 use Rattle.field.specs.Field.{told}
-use Rattle.field_told.specs.Cells.{byteAt}
+use Rattle.field_cells.specs.Cells.{byteAt}
 use Rattle.thermometer.specs.declared.temperatures.Answer.{Answer}
 use Rattle.thermometer.specs.Answer.{Tells, byteOf, temperatureOf}
 

@@ -1,6 +1,15 @@
-// What an update comes to. What it sends, and what that does, stands in specs/.
+// What an update comes to, and whether the setting that it needs is known. What it sends, and what that does, stands in specs/.
 use panel::Panel;
+use segment_knowledge::Control;
+use segment_knowledge::INCREMENT;
+use segment_knowledge::WRITE_DISPLAY;
+use standing::is_known;
 use terms::Place;
+ghost use mathlib.Core.Path.{_≡_};
+ghost use Prim.Native.Nat.{ℕ};
+ghost use Rattle.knowing.specs.Standing.{Standing as Of·Standing};
+ghost use Rattle.segment_knowledge.specs.View.{cview};
+ghost use Rattle.updating.specs.Update.{isSet};
 
 pub enum Updated {
     // Sent: the length of the recording that was written, and how many of its bytes go over the wire.
@@ -17,4 +26,13 @@ pub enum Updated {
 pub struct Refreshed {
     pub answer: Updated,
     pub panel: Panel,
+}
+
+// The data setting is known to be write display and increment.
+pub fn is_set(control: Control) -> bool
+    ensures { λ r. ⌜ ((cells : ℕ → ℕ → Of·Standing) → r ≡ isSet (cview cells control)) ⌝ }
+{
+    let mode = control.data;
+    let step = control.stepping;
+    is_known(mode, WRITE_DISPLAY) & is_known(step, INCREMENT)
 }

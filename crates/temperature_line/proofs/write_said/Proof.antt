@@ -3,7 +3,8 @@ use mathlib.Core.Path.{refl, subst}
 use mathlib.Core.List.{[], _∷_, _++_}
 use Rattle.text.specs.Text.{newline}
 use Rattle.writing.specs.Laws.{writes-then}
-use Rattle.temperature_line.specs.Line.{degrees, lined-as, Printable}
+use Rattle.degrees.specs.Degrees.{degrees}
+use Rattle.temperature_line.specs.Line.{lined-as, Printable}
 use borrow.Author.Needs.{needs}
 use Rattle.temperature_line.proofs.write_said.Statement.{statement}
 use Rattle.temperature_line.proofs.write_said.Tie as tie

@@ -1,8 +1,8 @@
--- `temperature_line::write_size` meets its contract: whole degrees, point and last digit stand one behind the other. Assumes nothing.
+-- `degrees::write_size` meets its contract: whole degrees, point and last digit stand one behind the other. Assumes nothing.
 use Rattle.writing.specs.Laws.{writes-then}
 use borrow.Author.Needs.{needs}
-use Rattle.temperature_line.proofs.write_size.Statement.{statement}
-use Rattle.temperature_line.proofs.write_size.Tie as tie
+use Rattle.degrees.proofs.write_size.Statement.{statement}
+use Rattle.degrees.proofs.write_size.Tie as tie
 
 cast-decimal : tie.Need-cast-decimal
 cast-decimal c = search needs

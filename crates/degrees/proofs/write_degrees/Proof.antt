@@ -1,13 +1,13 @@
--- `temperature_line::write_degrees` meets its contract: a minus stands in front where the half degrees are below nought. Assumes nothing.
+-- `degrees::write_degrees` meets its contract: a minus stands in front where the half degrees are below nought. Assumes nothing.
 use lib.IntN.{pos}
 use mathlib.Core.Bool.{Bool, true}
 use mathlib.Core.Path.{subst}
 use lib.Ieee.Exact.{HasValue}
 use Rattle.writing.specs.Laws.{writes-then}
-use Rattle.temperature_line.specs.Line.{written-under}
+use Rattle.degrees.specs.Degrees.{written-under}
 use borrow.Author.Needs.{needs}
-use Rattle.temperature_line.proofs.write_degrees.Statement.{statement}
-use Rattle.temperature_line.proofs.write_degrees.Tie as tie
+use Rattle.degrees.proofs.write_degrees.Statement.{statement}
+use Rattle.degrees.proofs.write_degrees.Tie as tie
 
 halves-of-requires : tie.Need-halves-of-requires
 halves-of-requires c κs = search needs

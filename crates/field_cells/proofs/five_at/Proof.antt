@@ -1,13 +1,13 @@
--- `field_told::cells::five_at` meets its contract. The argument: as long as the loop goes on, the bytes read are those that the cells are known to hold; the first cell
+-- `field_cells::five_at` meets its contract. The argument: as long as the loop goes on, the bytes read are those that the cells are known to hold; the first cell
 -- that is not known ends it. Assumes nothing.
 use Prim.Native.Nat.{ℕ, _+_, _-_, _≤_}
 use native.Mathlib.Omega.{arith}
 use mathlib.Core.Path.{_≡_, refl, sym, subst}
 use borrow.Author.Needs.{needs}
 use Rattle.standing.specs.declared.standing.Standing.the-variants.{Known, Unknown}
-use Rattle.field_told.specs.Cells.{byteAt, Read, no-cell, cell-is, read-none, read-more, read-all}
-use Rattle.field_told.proofs.cells.five_at.Statement.{statement}
-use Rattle.field_told.proofs.cells.five_at.Tie as tie
+use Rattle.field_cells.specs.Cells.{byteAt, Read, no-cell, cell-is, read-none, read-more, read-all}
+use Rattle.field_cells.proofs.five_at.Statement.{statement}
+use Rattle.field_cells.proofs.five_at.Tie as tie
 
 abbrev Inv-loop : tie.InvT-loop
 Inv-loop start dcram bytes₀ i₀ bytes i = (i ≤ 5) × Read dcram (start .0) i bytes

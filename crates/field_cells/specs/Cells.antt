@@ -4,7 +4,6 @@ use native.Mathlib.Nat.{add-zero}
 use native.Mathlib.Decide.{ℕ-discrete}
 use native.Mathlib.Omega.{arith}
 use mathlib.Core.Path.{_≡_, refl, sym, ap, _∙_, subst}
-use mathlib.Core.Bool.{Bool, true, false, _||_}
 use mathlib.Core.List.{List}
 use lib.ListN.{length, length-set, getD, set}
 use lib.Seq.{getD-set-same, getD-set-other}
@@ -14,8 +13,8 @@ use Rattle.standing.specs.declared.standing.Standing.{Standing as Single}
 use Rattle.standing.specs.View.{stands}
 use Rattle.lamps.specs.Whole.{whole}
 use Rattle.field.specs.declared.spelling.Five.{Five}
-use Rattle.field_told.specs.declared.cells.Row.{Row}
-use Rattle.field_told.specs.declared.cells.Row.the-variants.{Known, Unknown}
+use Rattle.field_cells.specs.declared.Row.{Row}
+use Rattle.field_cells.specs.declared.Row.the-variants.{Known, Unknown}
 use Rattle.field.specs.Said.{Said, unknown}
 use Rattle.field.specs.Field.{ifKnown, ifAll}
 
@@ -26,14 +25,6 @@ byteAt codes i = whole 8 (getD codes i 0)
 abbrev pub byRow : Row → (Five → Said) → Said
 byRow (Known five) rest = rest five
 byRow Unknown rest = unknown
-
--- Lights or digits are not known.
-abbrev pub isUnknown : Standing → Bool
-isUnknown (Of.known v) = false
-isUnknown Of.unknown = true
-
-abbrev pub eitherUnknown : Standing → Standing → Bool
-eitherUnknown lights digits = isUnknown lights || isUnknown digits
 
 -- Where one of the five cells is not known, nothing is told of them.
 else-unknown : (x : Standing) (f : ℕ → Said) → ((v : ℕ) → f v ≡ unknown) → ifKnown x f ≡ unknown

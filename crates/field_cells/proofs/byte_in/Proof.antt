@@ -1,11 +1,11 @@
--- `field_told::cells::byte_in` meets its contract: the marks are the high byte of the code, all are set where that is FFH, and no code below FF00H has it. Assumes nothing.
+-- `field_cells::byte_in` meets its contract: the marks are the high byte of the code, all are set where that is FFH, and no code below FF00H has it. Assumes nothing.
 use Prim.Native.Nat.{_/_}
 use native.Mathlib.Omega.{arith}
 use mathlib.Core.Path.{refl}
 use borrow.Author.Needs.{needs}
 use borrow.Author.Tests.{eq-eqb, ne-eqb}
-use Rattle.field_told.proofs.cells.byte_in.Statement.{statement}
-use Rattle.field_told.proofs.cells.byte_in.Tie as tie
+use Rattle.field_cells.proofs.byte_in.Statement.{statement}
+use Rattle.field_cells.proofs.byte_in.Tie as tie
 
 returns : tie.Need-returns
 returns c = rw (ne-eqb (c .before .args .code / 256) 255 (λ e. omega arith)) refl

@@ -1,4 +1,4 @@
-// Five cells in a row, where all are known.
+// The five cells of a temperature field as bytes, where all are known.
 use field::Five;
 use standing::Standing;
 use terms::Address;
@@ -9,7 +9,7 @@ ghost use Rattle.lamps.specs.Whole.{whole};
 ghost use Rattle.field.specs.declared.spelling.Five.{Five};
 ghost use Rattle.field.specs.Said.{Said};
 ghost use Rattle.field.specs.Field.{ifAll};
-ghost use Rattle.field_told.specs.Cells.{byRow, byteAt};
+ghost use Rattle.field_cells.specs.Cells.{byRow, byteAt};
 
 pub enum Row {
     Known(Five),
