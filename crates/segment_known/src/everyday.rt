@@ -168,21 +168,21 @@ pub fn meets(family: Family, cells: &mut [u16], code: u16)
 }
 
 // The byte goes to the LED.
-pub fn lit(c: Control, byte: u8) -> Control
+pub fn lit(mut c: Control, byte: u8) -> Control
     ensures { λ r. ⌜ ((s : Sizes) → Keeps s (gives (lights byte keep)) c r) ⌝ }
 {
     let old = c.led;
-    let led = put_byte(FOUR, old, byte);
-    Control { led, ..c }
+    c.led = put_byte(FOUR, old, byte);
+    c
 }
 
 // What the code says may have gone to the LED.
-pub fn perhaps_lit(c: Control, code: u16) -> Control
+pub fn perhaps_lit(mut c: Control, code: u16) -> Control
     ensures { λ r. ⌜ PerhapsLit code c r ⌝ }
 {
     let old = c.led;
-    let led = meet_code(FOUR, old, code);
-    Control { led, ..c }
+    c.led = meet_code(FOUR, old, code);
+    c
 }
 
 // The byte may have gone to that cell, and the address may have stepped on behind it.
