@@ -1,5 +1,7 @@
 // What each event makes of a knowledge.
 use crate::bytes::byte_in;
+use crate::everyday::falls;
+use crate::everyday::rises;
 use crate::latches::keys_latched;
 use crate::latches::switches_latched;
 use crate::reads::byte_out;
@@ -9,14 +11,12 @@ use lamps::FOUR;
 use lamps::put_byte;
 use segment::Family;
 use segment_knowledge::Control;
-use segment_knowledge::FIRST;
 use segment_knowledge::IDLE;
 use segment_knowledge::INCREMENT;
 use segment_knowledge::Knowledge;
 use segment_knowledge::OFF;
 use segment_knowledge::Pointing;
 use segment_knowledge::WRITE_DISPLAY;
-use segment_knowledge::at;
 use segment_steps::Step;
 use segment_steps::forgotten;
 use segment_steps::kept;
@@ -47,9 +47,9 @@ fn step(family: Family, mut c: Control, event: Event) -> Step
         Event::Gap => {
             return lost(family, c);
         }
-        Event::Falls => c = at(c, FIRST),
-        Event::Rises => c = at(c, IDLE),
-        Event::Unfinished(_) => c = at(c, IDLE),
+        Event::Falls => c = falls(c),
+        Event::Rises => c = rises(c),
+        Event::Unfinished(_) => c = rises(c),
         Event::Keys(k0, k1, k2, k3) => c = keys_latched(family, c, k0, k1, k2, k3),
         Event::Switches(value) => c = switches_latched(family, c, value),
         Event::ByteOut => c = byte_out(family, c),

@@ -75,7 +75,7 @@ returns-2 : tie.Need-returns-2
 returns-2 c = let a = c .before .before .before .args in
     let e = sym (c .before .before .command-of .ensures) in
     let k : Keeps (sizes (a .family)) (commanded (commandOf (sizes (a .family)) (a .byte))) (a .c) (c .before .match .c) =
-    ⊎-elim (λ w. keeps-by (sizes (a .family)) (a .c) (w .4) (ap commanded (e ∙ w .1 .given .1)) (w .3 .ensures)) (⊎-elim (λ w. keeps-by (sizes (a .family)) (a .c) (w .4) (ap commanded (e ∙ w .1 .given .1)) (w .3 .ensures)) (⊎-elim (λ w. keeps-by (sizes (a .family)) (a .c) (w .4) (ap commanded (e ∙ w .1 .given .1)) (w .3 .ensures)) (⊎-elim (λ w. keeps-by (sizes (a .family)) (a .c) (w .4) (ap commanded (e ∙ w .1 .given .1)) (w .3 .ensures)) (λ w. keeps-by (sizes (a .family)) (a .c) (w .4) (ap commanded (e ∙ w .1 .given .1)) (w .3 .ensures))))) (c .before .match .came) in
+    ⊎-elim (λ w. keeps-by (sizes (a .family)) (a .c) (w .3 .result) (w .4) (ap commanded (e ∙ w .1 .given .1)) (w .3 .ensures)) (⊎-elim (λ w. keeps-by (sizes (a .family)) (a .c) (w .3 .result) (w .4) (ap commanded (e ∙ w .1 .given .1)) (w .3 .ensures)) (⊎-elim (λ w. keeps-by (sizes (a .family)) (a .c) (w .3 .result) (w .4) (ap commanded (e ∙ w .1 .given .1)) (w .3 .ensures)) (⊎-elim (λ w. keeps-by (sizes (a .family)) (a .c) (w .3 .result) (w .4) (ap commanded (e ∙ w .1 .given .1)) (w .3 .ensures)) (λ w. keeps-by (sizes (a .family)) (a .c) (w .3 .result) (w .4) (ap commanded (e ∙ w .1 .given .1)) (w .3 .ensures))))) (c .before .match .came) in
     (kept-steps (c .kept .ensures) k, subst⁻¹ (λ (x : Step). Plain (x .change)) (c .kept .ensures) tt)
 
 pub first-in-spec : {M : Type 1} → statement M

@@ -2,11 +2,8 @@
 -- Assumes nothing.
 use mathlib.Core.Path.{_≡_, ap}
 use mathlib.Core.Logic.{⊎-elim}
-use Rattle.knowing.specs.Ways.{learnt}
-use Rattle.segment.specs.Fact.{same?, position}
 use Rattle.segment.specs.Family.{sizes}
 use Rattle.segment.specs.Move.{move}
-use Rattle.segment_knowledge.specs.View.{cview}
 use Rattle.segment_steps.specs.Step.{Keeps}
 use Rattle.segment_steps.specs.StepLaws.{kept-steps, forgotten-steps, as-steps}
 use Rattle.segment_known.specs.Ways.{keeps-by}
@@ -47,20 +44,20 @@ returns-3 c = as-steps (ap (move (sizes (c .before .before .before .args .family
 enum-told-3 : tie.Need-enum-told-3
 enum-told-3 c = search needs
 
-at-requires : tie.Need-at-requires
-at-requires c κs = search needs
+falls-requires : tie.Need-falls-requires
+falls-requires c κs = search needs
 
 enum-told-4 : tie.Need-enum-told-4
 enum-told-4 c = search needs
 
-at-requires-2 : tie.Need-at-requires-2
-at-requires-2 c κs = search needs
+rises-requires : tie.Need-rises-requires
+rises-requires c κs = search needs
 
 enum-told-5 : tie.Need-enum-told-5
 enum-told-5 c = search needs
 
-at-requires-3 : tie.Need-at-requires-3
-at-requires-3 c κs = search needs
+rises-requires-2 : tie.Need-rises-requires-2
+rises-requires-2 c κs = search needs
 
 enum-known-event-2 : tie.Need-enum-known-event-2
 enum-known-event-2 c = search needs
@@ -87,12 +84,12 @@ returns-4 : tie.Need-returns-4
 returns-4 c = let a = c .before .before .args in
     let s = sizes (a .family) in
     let k : Keeps s (move s (a .event)) (a .c) (c .before .match .c) =
-    ⊎-elim (λ w. keeps-by s (a .c) (w .3) (ap (move s) (w .1 .given .1)) (λ cells. learnt (cview cells) same? (a .c) _ position 1 (w .2 .ensures cells)))
-    (⊎-elim (λ w. keeps-by s (a .c) (w .3) (ap (move s) (w .1 .given .1)) (λ cells. learnt (cview cells) same? (a .c) _ position 0 (w .2 .ensures cells)))
-    (⊎-elim (λ w. keeps-by s (a .c) (w .3) (ap (move s) (w .1 .given .1)) (λ cells. learnt (cview cells) same? (a .c) _ position 0 (w .2 .ensures cells)))
-    (⊎-elim (λ w. keeps-by s (a .c) (w .4) (ap (move s) (w .1 .given .1)) (w .3 .ensures))
-    (⊎-elim (λ w. keeps-by s (a .c) (w .4) (ap (move s) (w .1 .given .1)) (w .3 .ensures))
-    (λ w. keeps-by s (a .c) (w .3) (ap (move s) (w .1 .given .1)) (w .2 .ensures))))))
+    ⊎-elim (λ w. keeps-by s (a .c) (w .2 .result) (w .3) (ap (move s) (w .1 .given .1)) (w .2 .ensures .0 s))
+    (⊎-elim (λ w. keeps-by s (a .c) (w .2 .result) (w .3) (ap (move s) (w .1 .given .1)) (w .2 .ensures s))
+    (⊎-elim (λ w. keeps-by s (a .c) (w .2 .result) (w .3) (ap (move s) (w .1 .given .1)) (w .2 .ensures s))
+    (⊎-elim (λ w. keeps-by s (a .c) (w .3 .result) (w .4) (ap (move s) (w .1 .given .1)) (w .3 .ensures))
+    (⊎-elim (λ w. keeps-by s (a .c) (w .3 .result) (w .4) (ap (move s) (w .1 .given .1)) (w .3 .ensures))
+    (λ w. keeps-by s (a .c) (w .2 .result) (w .3) (ap (move s) (w .1 .given .1)) (w .2 .ensures))))))
     (c .before .match .came) in
     kept-steps (c .kept .ensures) k
 
@@ -111,11 +108,11 @@ step-spec =
     lost-requires
     returns-3
     enum-told-3
-    at-requires
+    falls-requires
     enum-told-4
-    at-requires-2
+    rises-requires
     enum-told-5
-    at-requires-3
+    rises-requires-2
     enum-known-event-2
     keys-latched-requires
     enum-known-event-3
