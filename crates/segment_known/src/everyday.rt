@@ -21,7 +21,7 @@ ghost use mathlib.Core.Path.{_≡_};
 ghost use mathlib.Core.Bool.{Bool, true};
 ghost use Prim.Native.Nat.{ℕ, _+_, _≤_};
 ghost use lib.ListN.{length};
-ghost use Rattle.knowing.specs.Standing.{known, unknown};
+ghost use Rattle.knowing.specs.Standing.{known};
 ghost use Rattle.standing.specs.View.{stands};
 ghost use Rattle.changes.specs.Change.{Met};
 ghost use Rattle.terms.specs.declared.Event.the-variants.{Falls, Rises};
@@ -210,37 +210,37 @@ fn perhaps_behind(cell: Address, stepping: Standing) -> Pointing
 pub fn nothing_left(c: Control) -> bool
     ensures { λ r. ⌜ (r ≡ true → Lost c) ⌝ }
 {
-    let address = c.address;
-    let data = c.data;
-    let stepping = c.stepping;
-    let mode = c.mode;
-    let dimming = c.dimming;
-    let display = c.display;
-    let count = c.count;
     let position = c.position;
-    if is_any(position) && is_any(data) && is_any(stepping) && is_any(mode) {
-        if is_any(dimming) && is_any(display) && is_any(count) && c.led == 0 {
-            return is_anywhere(address);
-        }
-    }
-    false
-}
-
-fn is_any(fact: Standing) -> bool
-    ensures { λ r. ⌜ (r ≡ true → stands fact ≡ unknown) ⌝ }
-{
-    match fact {
-        Standing::Known(_) => false,
-        Standing::Unknown => true,
-    }
-}
-
-fn is_anywhere(address: Pointing) -> bool
-    ensures { λ r. ⌜ (r ≡ true → points address ≡ unknown) ⌝ }
-{
-    match address {
-        Pointing::At(_) => false,
-        Pointing::Invalid => false,
-        Pointing::Unknown => true,
-    }
+    let Standing::Unknown = position else {
+        return false;
+    };
+    let data = c.data;
+    let Standing::Unknown = data else {
+        return false;
+    };
+    let stepping = c.stepping;
+    let Standing::Unknown = stepping else {
+        return false;
+    };
+    let mode = c.mode;
+    let Standing::Unknown = mode else {
+        return false;
+    };
+    let dimming = c.dimming;
+    let Standing::Unknown = dimming else {
+        return false;
+    };
+    let display = c.display;
+    let Standing::Unknown = display else {
+        return false;
+    };
+    let count = c.count;
+    let Standing::Unknown = count else {
+        return false;
+    };
+    let address = c.address;
+    let Pointing::Unknown = address else {
+        return false;
+    };
+    c.led == 0
 }
