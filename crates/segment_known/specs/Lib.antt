@@ -5,3 +5,4 @@ pub mod Moved
 pub mod Writes
 pub mod Everyday
 pub mod Drift
+pub mod Reads
