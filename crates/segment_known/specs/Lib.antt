@@ -6,3 +6,4 @@ pub mod Writes
 pub mod Everyday
 pub mod Drift
 pub mod Reads
+pub mod Anywhere

@@ -34,7 +34,7 @@ ghost use Rattle.segment.specs.declared.chip.Position.the-variants.{Open};
 ghost use Rattle.segment.specs.Value.{at-position};
 ghost use Rattle.segment_knowledge.specs.View.{points};
 ghost use Rattle.segment_steps.specs.Step.{Keeps};
-ghost use Rattle.segment_known.specs.Everyday.{Hits, HitsAt, PerhapsAt, ring, PerhapsLit, perhapsOn, PerhapsStepped, Lost};
+ghost use Rattle.segment_known.specs.Everyday.{Hits, HitsAt, PerhapsAt, ring, PerhapsLit, PerhapsStepped, Lost};
 ghost use Rattle.segment_known.specs.Writes.{writing, pointing};
 
 pub fn falls(c: Control) -> Control
@@ -146,13 +146,12 @@ pub fn counted_on(family: Family, c: Control, cell: Address, count: usize) -> Co
     ensures { λ r. ⌜ r ≡ pointing c (ring (sizes family) (cell .0 + count)) ⌝ }
 {
     let sizes = family.sizes();
-    let next = cell.0 as usize + count;
-    let address = if next < sizes.cells as usize {
-        Pointing::At(Address(next as u8))
-    } else {
-        Pointing::At(Address(0))
-    };
-    Control { address, ..c }
+    let next = cell.0 + count as u8;
+    let to = if next < sizes.cells { next } else { 0 };
+    Control {
+        address: Pointing::At(Address(to)),
+        ..c
+    }
 }
 
 // Each of a run of bytes may have gone to any cell: each cell keeps what it has in common with what they have in common. Each part has a loop of its own, whose end
@@ -190,20 +189,14 @@ pub fn perhaps_stepped(c: Control, cell: Address) -> Control
     ensures { λ r. ⌜ PerhapsStepped (cell .0) c r ⌝ }
 {
     let stepping = c.stepping;
-    let address = perhaps_behind(cell, stepping);
-    Control { address, ..c }
-}
-
-fn perhaps_behind(cell: Address, stepping: Standing) -> Pointing
-    ensures { λ r. ⌜ points r ≡ perhapsOn (cell .0) (stands stepping) ⌝ }
-{
-    match stepping {
+    let address = match stepping {
         Standing::Known(step) => match step {
             INCREMENT => Pointing::Unknown,
             _ => Pointing::At(cell),
         },
         Standing::Unknown => Pointing::Unknown,
-    }
+    };
+    Control { address, ..c }
 }
 
 // Nothing is left that a byte clocked in could change, where nothing is known of the cells: events were lost, and since then keys and switches may have been latched.
