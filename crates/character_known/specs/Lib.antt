@@ -10,3 +10,4 @@ pub mod Lost
 pub mod Open
 pub mod Aimed
 pub mod Runs
+pub mod Places

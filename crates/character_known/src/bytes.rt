@@ -1,6 +1,8 @@
 // What a byte clocked in makes of a knowledge.
 use crate::columns::to_draw;
 use crate::commanded::first_in;
+use crate::stored::marked_by;
+use crate::stored::shown_by;
 use changes::Change;
 use character_knowledge::ADRAM;
 use character_knowledge::CGRAM;
@@ -60,63 +62,43 @@ fn in_anywhere(c: Control, byte: u8) -> Step
 }
 
 // A byte goes to DCRAM, and the other RAMs stay.
-fn to_show(c: Control, byte: u8) -> Step
+fn to_show(mut c: Control, byte: u8) -> Step
     ensures { λ r. ⌜ (Steps (look dcramAt (shown byte)) c r) × ((Plain (r .cgram)) × (Plain (r .adram))) ⌝ }
 {
     let to = c.dcram_at;
-    match to {
-        Pointing::At(address) => show_at(c, byte, address),
-        Pointing::Unknown => Step {
-            control: c,
-            dcram: Change::Meet(Address(0), 1, 16, byte),
-            cgram: Change::Keep,
-            adram: Change::Keep,
-        },
-    }
-}
-
-fn show_at(c: Control, byte: u8, address: Address) -> Step
-    ensures { λ r. ⌜ (Steps (shown byte (address .0)) c r) × ((Plain (r .cgram)) × (Plain (r .adram))) ⌝ }
-{
-    let cell = address.0 % 16;
+    let dcram = match to {
+        Pointing::At(address) => {
+            let cell = address.0 % 16;
+            c = shown_by(c, Address(cell), 1);
+            Change::Put(Address(cell), byte)
+        }
+        Pointing::Unknown => Change::Meet(Address(0), 1, 16, byte),
+    };
     Step {
-        control: Control {
-            dcram_at: Pointing::At(Address((cell + 1) % 16)),
-            ..c
-        },
-        dcram: Change::Put(Address(cell), byte),
+        control: c,
+        dcram,
         cgram: Change::Keep,
         adram: Change::Keep,
     }
 }
 
 // A pair of bits goes to ADRAM, and the other RAMs stay. The change carries the byte as it comes: the row takes two bits of it.
-fn to_mark(c: Control, byte: u8) -> Step
+fn to_mark(mut c: Control, byte: u8) -> Step
     ensures { λ r. ⌜ (Steps (look adramAt (marked byte)) c r) × ((Plain (r .dcram)) × (Plain (r .cgram))) ⌝ }
 {
     let to = c.adram_at;
-    match to {
-        Pointing::At(address) => mark_at(c, byte, address),
-        Pointing::Unknown => Step {
-            control: c,
-            dcram: Change::Keep,
-            cgram: Change::Keep,
-            adram: Change::Meet(Address(0), 1, 16, byte),
-        },
-    }
-}
-
-fn mark_at(c: Control, byte: u8, address: Address) -> Step
-    ensures { λ r. ⌜ (Steps (marked byte (address .0)) c r) × ((Plain (r .dcram)) × (Plain (r .cgram))) ⌝ }
-{
-    let cell = address.0 % 16;
+    let adram = match to {
+        Pointing::At(address) => {
+            let cell = address.0 % 16;
+            c = marked_by(c, Address(cell), 1);
+            Change::Put(Address(cell), byte)
+        }
+        Pointing::Unknown => Change::Meet(Address(0), 1, 16, byte),
+    };
     Step {
-        control: Control {
-            adram_at: Pointing::At(Address((cell + 1) % 16)),
-            ..c
-        },
+        control: c,
         dcram: Change::Keep,
         cgram: Change::Keep,
-        adram: Change::Put(Address(cell), byte),
+        adram,
     }
 }

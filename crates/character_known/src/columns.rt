@@ -15,6 +15,7 @@ ghost use Rattle.standing.specs.View.{stands};
 ghost use Rattle.changes.specs.Change.{Plain};
 ghost use Rattle.character_knowledge.specs.View.{points};
 ghost use Rattle.character_steps.specs.Step.{Steps};
+ghost use Rattle.character_known.specs.Places.{placed};
 
 pub fn to_draw(c: Control, byte: u8) -> Step
     ensures { λ r. ⌜ (Steps (look cgramAt (λ a. look column (drawn byte a))) c r) × ((Plain (r .dcram)) × (Plain (r .adram))) ⌝ }
@@ -26,86 +27,66 @@ pub fn to_draw(c: Control, byte: u8) -> Step
     }
 }
 
-// The character is known.
-fn draw_in(c: Control, byte: u8, address: Address) -> Step
+// The character is known. Where the column is too, the next one follows, of this character or of the one behind it.
+fn draw_in(mut c: Control, byte: u8, address: Address) -> Step
     requires { ⌜ points (c .«cgram_at») ≡ known (address .0) ⌝ }
     ensures { λ r. ⌜ (Steps (look column (drawn byte (address .0))) c r) × ((Plain (r .dcram)) × (Plain (r .adram))) ⌝ }
 {
-    let column = c.column;
-    match column {
-        Standing::Known(number) => draw_at(c, byte, address, number),
-        Standing::Unknown => Step {
-            control: Control {
-                cgram_at: Pointing::Unknown,
-                ..c
-            },
-            dcram: Change::Keep,
-            cgram: Change::Meet(Address(address.0 % 8 * 5), 1, 5, byte),
-            adram: Change::Keep,
-        },
-    }
-}
-
-// Both are known.
-fn draw_at(c: Control, byte: u8, address: Address, number: u8) -> Step
-    ensures { λ r. ⌜ (Steps (drawn byte (address .0) number) c r) × ((Plain (r .dcram)) × (Plain (r .adram))) ⌝ }
-{
     let character = address.0 % 8;
-    let column = number % 5;
-    let cgram = Change::Put(Address(character * 5 + column), byte);
-    if column == 4 {
-        Step {
-            control: Control {
-                cgram_at: Pointing::At(Address((character + 1) % 8)),
-                column: Standing::Known(0),
-                ..c
-            },
-            dcram: Change::Keep,
-            cgram,
-            adram: Change::Keep,
+    let column = c.column;
+    let cgram = match column {
+        Standing::Known(number) => {
+            let at = number % 5;
+            let to = if at == 4 {
+                (character + 1) % 8
+            } else {
+                address.0
+            };
+            c = drawing(c, Pointing::At(Address(to)), Standing::Known((at + 1) % 5));
+            Change::Put(Address(character * 5 + at), byte)
         }
-    } else {
-        Step {
-            control: Control {
-                column: Standing::Known(column + 1),
-                ..c
-            },
-            dcram: Change::Keep,
-            cgram,
-            adram: Change::Keep,
+        Standing::Unknown => {
+            c = drawing(c, Pointing::Unknown, column);
+            Change::Meet(Address(character * 5), 1, 5, byte)
         }
+    };
+    Step {
+        control: c,
+        dcram: Change::Keep,
+        cgram,
+        adram: Change::Keep,
     }
 }
 
 // The character is unknown, and stays so.
-fn draw_anywhere(c: Control, byte: u8) -> Step
+fn draw_anywhere(mut c: Control, byte: u8) -> Step
     requires { ⌜ points (c .«cgram_at») ≡ unknown ⌝ }
     ensures { λ r. ⌜ (Steps (look cgramAt (λ a. look column (drawn byte a))) c r) × ((Plain (r .dcram)) × (Plain (r .adram))) ⌝ }
 {
     let column = c.column;
-    match column {
-        Standing::Known(number) => draw_column(c, byte, number),
-        Standing::Unknown => Step {
-            control: c,
-            dcram: Change::Keep,
-            cgram: Change::Meet(Address(0), 1, 40, byte),
-            adram: Change::Keep,
-        },
+    let cgram = match column {
+        Standing::Known(number) => {
+            let at = number % 5;
+            c = drawing(c, Pointing::Unknown, Standing::Known((at + 1) % 5));
+            Change::Meet(Address(at), 5, 8, byte)
+        }
+        Standing::Unknown => Change::Meet(Address(0), 1, 40, byte),
+    };
+    Step {
+        control: c,
+        dcram: Change::Keep,
+        cgram,
+        adram: Change::Keep,
     }
 }
 
-fn draw_column(c: Control, byte: u8, number: u8) -> Step
-    requires { ⌜ (points (c .«cgram_at») ≡ unknown) × (stands (c .column) ≡ known number) ⌝ }
-    ensures { λ r. ⌜ (Steps (look cgramAt (λ a. look column (drawn byte a))) c r) × ((Plain (r .dcram)) × (Plain (r .adram))) ⌝ }
+// The same with another place in CGRAM.
+fn drawing(c: Control, cgram_at: Pointing, column: Standing) -> Control
+    ensures { λ r. ⌜ r ≡ placed c «cgram_at» column ⌝ }
 {
-    let at = number % 5;
-    Step {
-        control: Control {
-            column: Standing::Known((at + 1) % 5),
-            ..c
-        },
-        dcram: Change::Keep,
-        cgram: Change::Meet(Address(at), 5, 8, byte),
-        adram: Change::Keep,
+    Control {
+        cgram_at,
+        column,
+        ..c
     }
 }

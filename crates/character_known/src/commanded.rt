@@ -28,21 +28,25 @@ ghost use Rattle.character.specs.Value.{lit};
 ghost use Rattle.character_steps.specs.Step.{Keeps, Forgets, Steps, AllPlain};
 
 // Every RAM stays, or an undefined command leaves nothing known of any.
-pub fn first_in(c: Control, byte: u8) -> Step
+pub fn first_in(mut c: Control, byte: u8) -> Step
     ensures { λ r. ⌜ (Steps (gives (commanded (commandOf byte))) c r) × (AllPlain r) ⌝ }
 {
     let command = command_of(byte);
     match command {
-        Command::Dcram(address) => kept(show_from(c, address)),
-        Command::Cgram(address) => kept(draw_from(c, address)),
-        Command::Adram(address) => kept(mark_from(c, address)),
-        Command::Port(bits) => kept(port_set(c, bits)),
-        Command::Duty(duty) => kept(duty_set(c, duty)),
-        Command::Digits(digits) => kept(digits_set(c, digits)),
-        Command::Light(lights) => kept(lights_set(c, lights)),
-        Command::Nothing => kept(ignoring_on(c)),
-        Command::Undefined => forgotten(undefined_in()),
+        Command::Undefined => {
+            c = undefined_in();
+            return forgotten(c);
+        }
+        Command::Dcram(address) => c = show_from(c, address),
+        Command::Cgram(address) => c = draw_from(c, address),
+        Command::Adram(address) => c = mark_from(c, address),
+        Command::Port(bits) => c = port_set(c, bits),
+        Command::Duty(duty) => c = duty_set(c, duty),
+        Command::Digits(digits) => c = digits_set(c, digits),
+        Command::Light(lights) => c = lights_set(c, lights),
+        Command::Nothing => c = ignoring_on(c),
     }
+    kept(c)
 }
 
 pub fn show_from(c: Control, address: Address) -> Control

@@ -1,13 +1,13 @@
 // What each event makes of a knowledge.
 use crate::bytes::byte_in;
+use crate::everyday::falls;
+use crate::everyday::rises;
 use applying::apply;
 use character_knowledge::Control;
-use character_knowledge::FIRST;
 use character_knowledge::IDLE;
 use character_knowledge::Knowledge;
 use character_knowledge::OFF;
 use character_knowledge::Pointing;
-use character_knowledge::at;
 use character_steps::Step;
 use character_steps::forgotten;
 use character_steps::kept;
@@ -27,20 +27,27 @@ ghost use Rattle.character_knowledge.specs.View.{Knows};
 ghost use Rattle.character_steps.specs.Step.{Steps};
 
 // What an event does, by what is known beside the memory. Keys, switches and bytes out are no events of this part, and change nothing.
-fn step(c: Control, event: Event) -> Step
+fn step(mut c: Control, event: Event) -> Step
     ensures { λ r. ⌜ Steps (move event) c r ⌝ }
 {
     match event {
-        Event::Power => at_power(c),
-        Event::Falls => kept(at(c, FIRST)),
-        Event::ByteIn(byte) => byte_in(c, byte),
-        Event::Rises => kept(at(c, IDLE)),
-        Event::Gap => lost(c),
-        Event::Unfinished(_) => kept(at(c, IDLE)),
-        Event::Keys(_, _, _, _) => kept(c),
-        Event::Switches(_) => kept(c),
-        Event::ByteOut => kept(c),
+        Event::Power => {
+            return at_power(c);
+        }
+        Event::ByteIn(byte) => {
+            return byte_in(c, byte);
+        }
+        Event::Gap => {
+            return lost(c);
+        }
+        Event::Falls => c = falls(c),
+        Event::Rises => c = rises(c),
+        Event::Unfinished(_) => c = rises(c),
+        Event::Keys(_, _, _, _) => {}
+        Event::Switches(_) => {}
+        Event::ByteOut => {}
     }
+    kept(c)
 }
 
 fn at_power(c: Control) -> Step

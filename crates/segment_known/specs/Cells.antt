@@ -5,6 +5,7 @@ use mathlib.Core.Path.{_≡_, refl, ap, _∙_}
 use mathlib.Core.Bool.{Bool, true, false}
 use mathlib.Core.List.{List}
 use lib.ListN.{length, length-set, getD, set}
+use lib.Seq.{set-comm}
 use lib.Dec.{ltb}
 use Rattle.rules.specs.Choice.{whether}
 use Rattle.rules.specs.Rule.{value, copy, look}
@@ -76,6 +77,19 @@ somewhere s b v some u f =
 pub somewhere-steps : (p : Family) (c : Control) (b : ℕ) → points (c .address) ≡ Of.unknown
     → Steps (sizes p) (look address (stored (sizes p) b)) c (record { control = c; change = Meet (record { 0 = 0 }) 1 (sizes p .cells) b })
 somewhere-steps p c b u = record { knows = λ cells f. every (λ (f : Fact). sview cells (record { control = c; change = Meet (record { 0 = 0 }) 1 (sizes p .cells) b }) f ≡ roams (sizes p) b (cview cells c) f) (λ i k. refl) refl refl refl refl refl refl (λ k. refl) (λ i. refl) refl refl refl f ∙ somewhere (sizes p) b (cview cells c) (proper p .some) u f; inside = (omega arith, λ j h. omega (arith, room p .0)) }
+
+-- Key bytes that are set one behind the other, in the order of the rule.
+pub three-set : (l : List ℕ) (k0 k1 k2 : ℕ) → set (set (set l 0 k0) 1 k1) 2 k2 ≡ set (set (set l 2 k2) 1 k1) 0 k0
+three-set l k0 k1 k2 =
+    set-comm (set l 0 k0) 1 2 k1 k2 (λ e. omega (arith, e))
+    ∙ ap (λ (x : List ℕ). set x 1 k1) (set-comm l 0 2 k0 k2 (λ e. omega (arith, e)))
+    ∙ set-comm (set l 2 k2) 0 1 k0 k1 (λ e. omega (arith, e))
+
+pub four-set : (l : List ℕ) (k0 k1 k2 k3 : ℕ) → set (set (set (set l 0 k0) 1 k1) 2 k2) 3 k3 ≡ set (set (set (set l 3 k3) 2 k2) 1 k1) 0 k0
+four-set l k0 k1 k2 k3 =
+    ap (λ (x : List ℕ). set x 3 k3) (three-set l k0 k1 k2)
+    ∙ set-comm (set (set l 2 k2) 1 k1) 0 3 k0 k3 (λ e. omega (arith, e))
+    ∙ ap (λ (x : List ℕ). set x 0 k0) (set-comm (set l 2 k2) 1 3 k1 k3 (λ e. omega (arith, e)) ∙ ap (λ (x : List ℕ). set x 1 k1) (set-comm l 2 3 k2 k3 (λ e. omega (arith, e))))
 
 -- The key bytes after they are latched.
 pub keys-coded : (s : Sizes) (cells : ℕ → ℕ → Of.Standing) (c : Control) (k0 k1 k2 k3 : ℕ) (rest new : List ℕ) (i : ℕ) → k0 < 256 → k1 < 256 → k2 < 256 → k3 < 256

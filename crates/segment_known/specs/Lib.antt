@@ -5,3 +5,5 @@ pub mod Moved
 pub mod Writes
 pub mod Everyday
 pub mod Drift
+pub mod Reads
+pub mod Anywhere

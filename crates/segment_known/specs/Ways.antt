@@ -1,4 +1,4 @@
--- What the looks of this family come to: at a number that the code's match does not name, at an unknown read count, at an unknown mode.
+-- What the looks of this family come to: at a number that the code's match does not name, and at an unknown mode.
 use Prim.Native.Nat.{ℕ, zero, suc, _/_, _%_, _<_, _≤_}
 use native.Mathlib.Omega.{arith}
 use native.Mathlib.Decide.{ℕ-discrete}
@@ -10,10 +10,10 @@ use Rattle.rules.specs.Choice.{whether, bit, of4, of4-all}
 use Rattle.rules.specs.Rule.{Rule, gives, look}
 use Rattle.knowing.specs.Standing as Of
 use Rattle.knowing.specs.Know.{lifted, learn, join, common, know}
-use Rattle.knowing.specs.Join.{join-itself, common-same, common-two, common-apart}
+use Rattle.knowing.specs.Join.{join-itself, common-two}
 use Rattle.knowing.specs.Look.{look-unknown}
 use Rattle.knowing.specs.Ways as Ways
-use Rattle.knowing.specs.Ways.{Way, Becomes, Joins, known-way}
+use Rattle.knowing.specs.Ways.{Way, Becomes, Joins, known-way, as-rule}
 use Rattle.segment.specs.declared.chip.Sizes.{Sizes}
 use Rattle.segment.specs.declared.chip.Position.the-variants.{Ignoring}
 use Rattle.segment.specs.declared.chip.Display.the-variants.{Off}
@@ -27,13 +27,17 @@ use Rattle.segment.specs.declared.chip.Family.{Family}
 use Rattle.segment.specs.declared.chip.Family.the-variants.{Pt6312, Pt6315}
 use Rattle.segment.specs.Fact.{Fact, same?, range, cell, address, dataMode, stepping, mode, dimming, display, led, key, switches, readCount, position}
 use Rattle.segment.specs.Laws.{every}
-use Rattle.segment.specs.Move.{sets, then, nothing, toMode, counted}
+use Rattle.segment.specs.Move.{sets, then, nothing, toMode}
 use Rattle.standing.specs.View.{stands}
 use Rattle.standing.specs.declared.standing.Standing.{Standing}
 use Rattle.standing.specs.declared.standing.Standing.the-variants.{Known}
 use Rattle.segment_knowledge.specs.declared.control.Control.{Control as Beside}
 use Rattle.segment_knowledge.specs.View.{cview}
 use Rattle.segment_steps.specs.Step.{Keeps}
+
+-- What keeps the cells by one rule does so by a rule that is the same, whatever the control is called.
+pub keeps-by : (s : Sizes) (c d : Beside) {x y : Rule Fact Fact} {e : Beside} → e ≡ d → x ≡ y → Keeps s y c d → Keeps s x c e
+keeps-by s c d {x} {y} {e} p q h = subst⁻¹ (λ (z : Beside). Keeps s x c z) p (λ cells. as-rule (cview cells) (cview cells) same? (range s) x y c d q (h cells))
 
 -- The choices that no number of the code's match names.
 pub other-in : (a b : Rule Fact Fact) (n : ℕ) → ¬ (n ≡ 1) → ¬ (n ≡ 2) → of4 nothing a b nothing n ≡ nothing
@@ -42,42 +46,11 @@ other-in a b (suc zero) p q = absurd (p refl)
 other-in a b (suc (suc zero)) p q = absurd (q refl)
 other-in a b (suc (suc (suc n))) p q = refl
 
-pub other-out : (a : Rule Fact Fact) (n : ℕ) → ¬ (n ≡ 2) → of4 nothing nothing a nothing n ≡ nothing
-other-out a zero q = refl
-other-out a (suc zero) q = refl
-other-out a (suc (suc zero)) q = absurd (q refl)
-other-out a (suc (suc (suc n))) q = refl
-
 pub other-written : (a b : Rule Fact Fact) (n : ℕ) → ¬ (n ≡ 0) → ¬ (n ≡ 1) → of4 a b nothing nothing n ≡ nothing
 other-written a b zero p q = absurd (p refl)
 other-written a b (suc zero) p q = absurd (q refl)
 other-written a b (suc (suc zero)) p q = refl
 other-written a b (suc (suc (suc n))) p q = refl
-
-pub low-read : (a : Rule Fact Fact) (n : ℕ) → n < 2 → of4 nothing nothing a a n ≡ nothing
-low-read a zero p = refl
-low-read a (suc zero) p = refl
-low-read a (suc (suc n)) p = absurd (omega arith)
-
-pub high-read : (a : Rule Fact Fact) (n : ℕ) → 2 ≤ n → of4 nothing nothing a a n ≡ a
-high-read a zero p = absurd (omega arith)
-high-read a (suc zero) p = absurd (omega arith)
-high-read a (suc (suc zero)) p = refl
-high-read a (suc (suc (suc n))) p = refl
-
--- An unknown read count stays unknown, and nothing else changes.
-pub count-unknown : (s : Sizes) (c : Beside) → stands (c .count) ≡ Of.unknown → Keeps s (look readCount counted) c c
-count-unknown s c u cells f =
-    look-unknown same? (range s) readCount counted (cview cells c) f (cview cells c f) u
-    (every (λ (f : Fact). cview cells c f ≡ common 5 (λ (w : ℕ). know same? (range s) (counted w) (learn same? readCount w (cview cells c)) f))
-    (λ i k. same (cell i k) (λ w. refl)) (same address (λ w. refl)) (same dataMode (λ w. refl)) (same stepping (λ w. refl)) (same mode (λ w. refl)) (same dimming (λ w. refl)) (same display (λ w. refl)) (λ k. same (led k) (λ w. refl))
-    (λ i. same (key i) (λ w. refl)) (same switches (λ w. refl))
-    (u ∙ sym (common-apart 5 _ 0 1 1 2 (omega arith) (omega arith) (λ e. omega arith) refl refl))
-    (same position (λ w. refl)) f)
-  where
-    same : (f : Fact) → ((w : ℕ) → know same? (range s) (counted w) (learn same? readCount w (cview cells c)) f ≡ cview cells c f)
-        → cview cells c f ≡ common 5 (λ (w : ℕ). know same? (range s) (counted w) (learn same? readCount w (cview cells c)) f)
-    same f h = sym (common-same 5 _ (cview cells c f) (omega arith) (λ w l. h w))
 
 -- The mode that a command names, if it is a mode command.
 abbrev codeOf : Command → ℕ

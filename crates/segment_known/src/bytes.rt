@@ -10,8 +10,6 @@ use lamps::put_byte;
 use segment::Family;
 use segment_knowledge::Control;
 use segment_knowledge::FIRST;
-use segment_knowledge::IDLE;
-use segment_knowledge::IGNORING;
 use segment_knowledge::OPEN;
 use segment_knowledge::Pointing;
 use segment_knowledge::WRITE_DISPLAY;
@@ -32,6 +30,8 @@ ghost use Rattle.segment.specs.Move.{written, byteIn};
 ghost use Rattle.segment_steps.specs.Step.{Steps};
 ghost use Rattle.segment_known.specs.Writes.{Writes};
 
+// At an unknown position the byte may be a command, or data, or do nothing. The two ways that do nothing, idle and ignoring, have in common all that is known,
+// with the position unknown as it is, and so count as one.
 pub fn byte_in(family: Family, c: Control, byte: u8) -> Step
     ensures { λ r. ⌜ Steps (sizes family) (look position (byteIn (sizes family) byte)) c r ⌝ }
 {
@@ -41,8 +41,7 @@ pub fn byte_in(family: Family, c: Control, byte: u8) -> Step
         Standing::Unknown => {
             let first = first_in(family, at(c, FIRST), byte);
             let open = open_in(family, at(c, OPEN), byte);
-            let begun = both_steps(kept(at(c, IDLE)), first);
-            both_steps(both_steps(begun, open), kept(at(c, IGNORING)))
+            both_steps(both_steps(kept(c), first), open)
         }
     }
 }

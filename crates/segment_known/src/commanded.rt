@@ -38,18 +38,22 @@ ghost use Rattle.knowing.specs.Standing.{known};
 ghost use Rattle.standing.specs.View.{stands};
 ghost use Rattle.segment_known.specs.Ways.{displayIn};
 
-pub fn first_in(family: Family, c: Control, byte: u8) -> Step
+pub fn first_in(family: Family, mut c: Control, byte: u8) -> Step
     ensures { λ r. ⌜ (Steps (sizes family) (commanded (commandOf (sizes family) byte)) c r) × (Plain (r .change)) ⌝ }
 {
     let command = command_of(family, byte);
     match command {
-        Command::Mode(code) => kept(to_mode(family, c, code)),
-        Command::Test => forgotten(in_test(family, c)),
-        Command::Setting(data, stepping) => kept(data_set(family, c, data, stepping)),
-        Command::AnySetting(stepping) => kept(stepping_set(family, c, stepping)),
-        Command::Control(dimming, display) => kept(display_set(family, c, dimming, display)),
-        Command::Start(address) => kept(address_set(family, c, address)),
+        Command::Test => {
+            c = in_test(family, c);
+            return forgotten(c);
+        }
+        Command::Mode(code) => c = to_mode(family, c, code),
+        Command::Setting(data, stepping) => c = data_set(family, c, data, stepping),
+        Command::AnySetting(stepping) => c = stepping_set(family, c, stepping),
+        Command::Control(dimming, display) => c = display_set(family, c, dimming, display),
+        Command::Start(address) => c = address_set(family, c, address),
     }
+    kept(c)
 }
 
 pub fn data_set(family: Family, c: Control, data: Data, stepping: Stepping) -> Control

@@ -21,7 +21,7 @@ ghost use mathlib.Core.Path.{_≡_};
 ghost use mathlib.Core.Bool.{Bool, true};
 ghost use Prim.Native.Nat.{ℕ, _+_, _≤_};
 ghost use lib.ListN.{length};
-ghost use Rattle.knowing.specs.Standing.{known, unknown};
+ghost use Rattle.knowing.specs.Standing.{known};
 ghost use Rattle.standing.specs.View.{stands};
 ghost use Rattle.changes.specs.Change.{Met};
 ghost use Rattle.terms.specs.declared.Event.the-variants.{Falls, Rises};
@@ -34,7 +34,7 @@ ghost use Rattle.segment.specs.declared.chip.Position.the-variants.{Open};
 ghost use Rattle.segment.specs.Value.{at-position};
 ghost use Rattle.segment_knowledge.specs.View.{points};
 ghost use Rattle.segment_steps.specs.Step.{Keeps};
-ghost use Rattle.segment_known.specs.Everyday.{Hits, HitsAt, PerhapsAt, ring, PerhapsLit, perhapsOn, PerhapsStepped, Lost};
+ghost use Rattle.segment_known.specs.Everyday.{Hits, HitsAt, PerhapsAt, ring, PerhapsLit, PerhapsStepped, Lost};
 ghost use Rattle.segment_known.specs.Writes.{writing, pointing};
 
 pub fn falls(c: Control) -> Control
@@ -146,13 +146,12 @@ pub fn counted_on(family: Family, c: Control, cell: Address, count: usize) -> Co
     ensures { λ r. ⌜ r ≡ pointing c (ring (sizes family) (cell .0 + count)) ⌝ }
 {
     let sizes = family.sizes();
-    let next = cell.0 as usize + count;
-    let address = if next < sizes.cells as usize {
-        Pointing::At(Address(next as u8))
-    } else {
-        Pointing::At(Address(0))
-    };
-    Control { address, ..c }
+    let next = cell.0 + count as u8;
+    let to = if next < sizes.cells { next } else { 0 };
+    Control {
+        address: Pointing::At(Address(to)),
+        ..c
+    }
 }
 
 // Each of a run of bytes may have gone to any cell: each cell keeps what it has in common with what they have in common. Each part has a loop of its own, whose end
@@ -168,21 +167,21 @@ pub fn meets(family: Family, cells: &mut [u16], code: u16)
 }
 
 // The byte goes to the LED.
-pub fn lit(c: Control, byte: u8) -> Control
+pub fn lit(mut c: Control, byte: u8) -> Control
     ensures { λ r. ⌜ ((s : Sizes) → Keeps s (gives (lights byte keep)) c r) ⌝ }
 {
     let old = c.led;
-    let led = put_byte(FOUR, old, byte);
-    Control { led, ..c }
+    c.led = put_byte(FOUR, old, byte);
+    c
 }
 
 // What the code says may have gone to the LED.
-pub fn perhaps_lit(c: Control, code: u16) -> Control
+pub fn perhaps_lit(mut c: Control, code: u16) -> Control
     ensures { λ r. ⌜ PerhapsLit code c r ⌝ }
 {
     let old = c.led;
-    let led = meet_code(FOUR, old, code);
-    Control { led, ..c }
+    c.led = meet_code(FOUR, old, code);
+    c
 }
 
 // The byte may have gone to that cell, and the address may have stepped on behind it.
@@ -190,57 +189,51 @@ pub fn perhaps_stepped(c: Control, cell: Address) -> Control
     ensures { λ r. ⌜ PerhapsStepped (cell .0) c r ⌝ }
 {
     let stepping = c.stepping;
-    let address = perhaps_behind(cell, stepping);
-    Control { address, ..c }
-}
-
-fn perhaps_behind(cell: Address, stepping: Standing) -> Pointing
-    ensures { λ r. ⌜ points r ≡ perhapsOn (cell .0) (stands stepping) ⌝ }
-{
-    match stepping {
+    let address = match stepping {
         Standing::Known(step) => match step {
             INCREMENT => Pointing::Unknown,
             _ => Pointing::At(cell),
         },
         Standing::Unknown => Pointing::Unknown,
-    }
+    };
+    Control { address, ..c }
 }
 
 // Nothing is left that a byte clocked in could change, where nothing is known of the cells: events were lost, and since then keys and switches may have been latched.
 pub fn nothing_left(c: Control) -> bool
     ensures { λ r. ⌜ (r ≡ true → Lost c) ⌝ }
 {
-    let address = c.address;
-    let data = c.data;
-    let stepping = c.stepping;
-    let mode = c.mode;
-    let dimming = c.dimming;
-    let display = c.display;
-    let count = c.count;
     let position = c.position;
-    if is_any(position) && is_any(data) && is_any(stepping) && is_any(mode) {
-        if is_any(dimming) && is_any(display) && is_any(count) && c.led == 0 {
-            return is_anywhere(address);
-        }
-    }
-    false
-}
-
-fn is_any(fact: Standing) -> bool
-    ensures { λ r. ⌜ (r ≡ true → stands fact ≡ unknown) ⌝ }
-{
-    match fact {
-        Standing::Known(_) => false,
-        Standing::Unknown => true,
-    }
-}
-
-fn is_anywhere(address: Pointing) -> bool
-    ensures { λ r. ⌜ (r ≡ true → points address ≡ unknown) ⌝ }
-{
-    match address {
-        Pointing::At(_) => false,
-        Pointing::Invalid => false,
-        Pointing::Unknown => true,
-    }
+    let Standing::Unknown = position else {
+        return false;
+    };
+    let data = c.data;
+    let Standing::Unknown = data else {
+        return false;
+    };
+    let stepping = c.stepping;
+    let Standing::Unknown = stepping else {
+        return false;
+    };
+    let mode = c.mode;
+    let Standing::Unknown = mode else {
+        return false;
+    };
+    let dimming = c.dimming;
+    let Standing::Unknown = dimming else {
+        return false;
+    };
+    let display = c.display;
+    let Standing::Unknown = display else {
+        return false;
+    };
+    let count = c.count;
+    let Standing::Unknown = count else {
+        return false;
+    };
+    let address = c.address;
+    let Pointing::Unknown = address else {
+        return false;
+    };
+    c.led == 0
 }

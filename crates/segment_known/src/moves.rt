@@ -1,5 +1,7 @@
 // What each event makes of a knowledge.
 use crate::bytes::byte_in;
+use crate::everyday::falls;
+use crate::everyday::rises;
 use crate::latches::keys_latched;
 use crate::latches::switches_latched;
 use crate::reads::byte_out;
@@ -9,14 +11,12 @@ use lamps::FOUR;
 use lamps::put_byte;
 use segment::Family;
 use segment_knowledge::Control;
-use segment_knowledge::FIRST;
 use segment_knowledge::IDLE;
 use segment_knowledge::INCREMENT;
 use segment_knowledge::Knowledge;
 use segment_knowledge::OFF;
 use segment_knowledge::Pointing;
 use segment_knowledge::WRITE_DISPLAY;
-use segment_knowledge::at;
 use segment_steps::Step;
 use segment_steps::forgotten;
 use segment_steps::kept;
@@ -33,20 +33,28 @@ ghost use Rattle.segment_knowledge.specs.View.{Knows};
 ghost use Rattle.segment_steps.specs.Step.{Steps, Forgets};
 
 // What is known beside the memory after an event, and what happens to the memory.
-fn step(family: Family, c: Control, event: Event) -> Step
+fn step(family: Family, mut c: Control, event: Event) -> Step
     ensures { λ r. ⌜ Steps (sizes family) (move (sizes family) event) c r ⌝ }
 {
     match event {
-        Event::Power => forgotten(at_power(family, c)),
-        Event::Falls => kept(at(c, FIRST)),
-        Event::ByteIn(byte) => byte_in(family, c, byte),
-        Event::Rises => kept(at(c, IDLE)),
-        Event::Gap => lost(family, c),
-        Event::Unfinished(_) => kept(at(c, IDLE)),
-        Event::Keys(k0, k1, k2, k3) => kept(keys_latched(family, c, k0, k1, k2, k3)),
-        Event::Switches(value) => kept(switches_latched(family, c, value)),
-        Event::ByteOut => kept(byte_out(family, c)),
+        Event::Power => {
+            c = at_power(family, c);
+            return forgotten(c);
+        }
+        Event::ByteIn(byte) => {
+            return byte_in(family, c, byte);
+        }
+        Event::Gap => {
+            return lost(family, c);
+        }
+        Event::Falls => c = falls(c),
+        Event::Rises => c = rises(c),
+        Event::Unfinished(_) => c = rises(c),
+        Event::Keys(k0, k1, k2, k3) => c = keys_latched(family, c, k0, k1, k2, k3),
+        Event::Switches(value) => c = switches_latched(family, c, value),
+        Event::ByteOut => c = byte_out(family, c),
     }
+    kept(c)
 }
 
 fn at_power(family: Family, c: Control) -> Control
@@ -85,17 +93,7 @@ pub fn taken(family: Family, c: Control, cells: &mut [u16], event: Event) -> Con
 pub fn moved(family: Family, k: Knowledge, event: Event) -> Knowledge
     ensures { λ r. ⌜ Knows (sizes family) (move (sizes family) event) k r ⌝ }
 {
-    let cells = k.cells;
-    moved_by(family, k.control, cells, event)
-}
-
-fn moved_by(family: Family, c: Control, cells: [u16; 36], event: Event) -> Knowledge
-    ensures { λ r. ⌜ Knows (sizes family) (move (sizes family) event) (record { cells = cells; control = c }) r ⌝ }
-{
-    let mut new = cells;
-    let control = taken(family, c, &mut new, event);
-    Knowledge {
-        cells: new,
-        control,
-    }
+    let mut cells = k.cells;
+    let control = taken(family, k.control, &mut cells, event);
+    Knowledge { cells, control }
 }

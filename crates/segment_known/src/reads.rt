@@ -1,83 +1,66 @@
-// What a byte clocked out makes of a knowledge.
+// What a byte clocked out makes of a knowledge: only the read count goes on.
 use segment::Family;
 use segment_knowledge::Control;
-use segment_knowledge::FIRST;
-use segment_knowledge::IDLE;
-use segment_knowledge::IGNORING;
 use segment_knowledge::OPEN;
 use segment_knowledge::READ_KEYS;
-use segment_knowledge::READ_SWITCHES;
-use segment_knowledge::WRITE_DISPLAY;
-use segment_knowledge::WRITE_LED;
-use segment_knowledge::at;
-use segment_knowledge::with_data;
-use segment_steps::both;
 use standing::Standing;
+use standing::both_standing;
+ghost use mathlib.Core.Path.{_≡_};
 ghost use Rattle.rules.specs.Rule.{look};
 ghost use Rattle.segment.specs.Family.{sizes};
-ghost use Rattle.segment.specs.Fact.{dataMode, readCount, position};
-ghost use Rattle.segment.specs.Move.{counted, readOut, byteOut};
+ghost use Rattle.segment.specs.Fact.{position};
+ghost use Rattle.segment.specs.Move.{byteOut};
+ghost use Rattle.standing.specs.View.{stands};
 ghost use Rattle.segment_steps.specs.Step.{Keeps};
+ghost use Rattle.segment_known.specs.Reads.{counts, modeOut, countOut};
 
 pub fn byte_out(family: Family, c: Control) -> Control
     ensures { λ r. ⌜ Keeps (sizes family) (look position byteOut) c r ⌝ }
 {
     let position = c.position;
-    match position {
-        Standing::Known(place) => out_at(family, c, place),
-        Standing::Unknown => {
-            let shut = both(at(c, IDLE), at(c, FIRST));
-            let open = open_out(family, at(c, OPEN));
-            both(both(shut, open), at(c, IGNORING))
-        }
-    }
-}
-
-fn out_at(family: Family, c: Control, place: u8) -> Control
-    ensures { λ r. ⌜ Keeps (sizes family) (byteOut place) c r ⌝ }
-{
-    match place {
-        OPEN => open_out(family, c),
-        _ => c,
-    }
-}
-
-fn open_out(family: Family, c: Control) -> Control
-    ensures { λ r. ⌜ Keeps (sizes family) (look dataMode readOut) c r ⌝ }
-{
     let data = c.data;
+    let old = c.count;
+    let count = count_out(position, data, old);
+    Control { count, ..c }
+}
+
+// The read count goes on while the chip is open. Where the position is unknown, it may have gone on or not.
+fn count_out(position: Standing, data: Standing, count: Standing) -> Standing
+    ensures { λ r. ⌜ stands r ≡ countOut (stands position) (stands «data») (stands count) ⌝ }
+{
+    match position {
+        Standing::Known(place) => match place {
+            OPEN => mode_out(data, count),
+            _ => count,
+        },
+        Standing::Unknown => both_standing(count, mode_out(data, count)),
+    }
+}
+
+// The same while it is open: in a read mode it goes on, and where the mode is unknown, it may have gone on or not.
+fn mode_out(data: Standing, count: Standing) -> Standing
+    ensures { λ r. ⌜ stands r ≡ modeOut (stands «data») (stands count) ⌝ }
+{
     match data {
         Standing::Known(mode) => {
             if mode < READ_KEYS {
-                c
+                count
             } else {
-                counted_up(family, c)
+                counted_up(count)
             }
         }
-        Standing::Unknown => {
-            let writing = both(with_data(c, WRITE_DISPLAY), with_data(c, WRITE_LED));
-            let keys = both(writing, counted_up(family, with_data(c, READ_KEYS)));
-            match family {
-                Family::Pt6312 => both(keys, counted_up(family, with_data(c, READ_SWITCHES))),
-                Family::Pt6315 => keys,
-            }
-        }
+        Standing::Unknown => both_standing(count, counted_up(count)),
     }
 }
 
-// An unknown count stays unknown: it may be any of several.
-fn counted_up(family: Family, c: Control) -> Control
-    ensures { λ r. ⌜ Keeps (sizes family) (look readCount counted) c r ⌝ }
+fn counted_up(count: Standing) -> Standing
+    ensures { λ r. ⌜ stands r ≡ counts (stands count) ⌝ }
 {
-    let count = c.count;
     match count {
         Standing::Known(n) => {
             let more = if n < 4 { n + 1 } else { 4 };
-            Control {
-                count: Standing::Known(more),
-                ..c
-            }
+            Standing::Known(more)
         }
-        Standing::Unknown => c,
+        Standing::Unknown => count,
     }
 }

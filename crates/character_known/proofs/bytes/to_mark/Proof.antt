@@ -1,12 +1,13 @@
--- `character_known::bytes::to_mark` meets its contract: at a known address the pair is put there, at an unknown one it may be in any cell.
+-- `character_known::bytes::to_mark` meets its contract: at a known address the byte is put there, at an unknown one it may be in any cell.
 -- Assumes nothing.
-use mathlib.Core.Path.{ap}
-use Rattle.character_knowledge.specs.View.{points}
+use mathlib.Core.Path.{refl, ap}
 use Rattle.character.specs.Fact.{adramAt}
 use Rattle.character.specs.Move.{marked}
+use Rattle.character_knowledge.specs.View.{points}
 use Rattle.character_steps.specs.Steps.{known-step}
 use Rattle.character_known.specs.Ram.{pairs}
 use Rattle.character_known.specs.Open.{open-step}
+use Rattle.character_known.specs.Places.{as-changed, marked-at}
 use borrow.Author.Needs.{needs}
 use Rattle.character_known.proofs.bytes.to_mark.Statement.{statement}
 use Rattle.character_known.proofs.bytes.to_mark.Tie as tie
@@ -14,18 +15,18 @@ use Rattle.character_known.proofs.bytes.to_mark.Tie as tie
 enum-known-to : tie.Need-enum-known-to
 enum-known-to c = search needs
 
-mark-at-requires : tie.Need-mark-at-requires
-mark-at-requires c κs = search needs
+marked-by-requires : tie.Need-marked-by-requires
+marked-by-requires c κs = search needs
 
 enum-told : tie.Need-enum-told
 enum-told c = search needs
 
 returns : tie.Need-returns
-returns c = let a = c .before .before .before .before .args in
-    (known-step adramAt (marked (a .byte)) (a .c) _ _ (λ m. ap points (c .before .before .to .given .1)) (c .mark-at .ensures .0), c .mark-at .ensures .1)
+returns c = let a = c .before .before .before .before .before .args in
+    (as-changed pairs (c .marked-by .ensures) refl (known-step adramAt (marked (a .byte)) (a .c) _ _ (λ m. ap points (c .before .before .before .to .given .1)) (marked-at (a .byte) (a .c) _)), (tt, tt))
 
 returns-2 : tie.Need-returns-2
 returns-2 c = (open-step (c .before .before .args .byte) pairs (ap points (c .enum-told .given .1)), (tt, tt))
 
 pub to-mark-spec : {M : Type 1} → statement M
-to-mark-spec = tie.close (tie.spec enum-known-to mark-at-requires enum-told returns returns-2)
+to-mark-spec = tie.close (tie.spec enum-known-to marked-by-requires enum-told returns returns-2)

@@ -1,50 +1,121 @@
--- `character_known::lost::nothing_left` meets its contract: each fact beside the memory is asked.
+-- `character_known::lost::nothing_left` meets its contract: each fact that is not unknown has left, and of the port no bit is known.
 -- Assumes nothing.
-use mathlib.Core.Path.{refl, sym, _∙_}
-use Rattle.rules.specs.Choice.{both}
+use mathlib.Core.Path.{refl, sym, ap, _∙_}
+use mathlib.Core.Bool.{true≢false}
+use borrow.Author.Tests.{eqb-true}
+use Rattle.standing.specs.View.{stands}
+use Rattle.lamps.specs.View.{shown}
+use Rattle.lamps.specs.Lamp.{none-shown}
 use Rattle.character.specs.Laws.{every}
+use Rattle.character_knowledge.specs.View.{points}
 use borrow.Author.Needs.{needs}
 use Rattle.character_known.proofs.lost.nothing_left.Statement.{statement}
 use Rattle.character_known.proofs.lost.nothing_left.Tie as tie
 
-nowhere-requires : tie.Need-nowhere-requires
-nowhere-requires c κs = search needs
+enum-told : tie.Need-enum-told
+enum-told c = search needs
 
-nowhere-requires-2 : tie.Need-nowhere-requires-2
-nowhere-requires-2 c κs = search needs
-
-nowhere-requires-3 : tie.Need-nowhere-requires-3
-nowhere-requires-3 c κs = search needs
-
-both-hold-requires : tie.Need-both-hold-requires
-both-hold-requires c κs = search needs
-
-both-hold-requires-2 : tie.Need-both-hold-requires-2
-both-hold-requires-2 c κs = search needs
-
-nothing-set-requires : tie.Need-nothing-set-requires
-nothing-set-requires c κs = search needs
-
-both-hold-requires-3 : tie.Need-both-hold-requires-3
-both-hold-requires-3 c κs = search needs
+enum-told-2 : tie.Need-enum-told-2
+enum-told-2 c = search needs
 
 returns : tie.Need-returns
-returns c = λ e.
-    let all = both _ _ (sym (c .both-hold3 .ensures) ∙ e) in
-    let first = both _ _ (sym (c .before .before .both-hold2 .ensures) ∙ all .0) in
-    let rest = both _ _ (sym (c .before .before .before .both-hold .ensures) ∙ first .1) in
-    let u = c .before .nothing-set .ensures (all .1) in
-    every _ (λ i k. refl) (λ i k. refl) (λ i k. refl) (c .before .before .before .before .before .before .nowhere .ensures (first .0)) (c .before .before .before .before .before .nowhere2 .ensures (rest .0)) (c .before .before .before .before .nowhere3 .ensures (rest .1)) (u .column) (u .port) (u .duty) (u .digits) (u .lights) (u .position)
+returns c = λ e. absurd (true≢false (sym e))
+
+enum-told-3 : tie.Need-enum-told-3
+enum-told-3 c = search needs
+
+enum-told-4 : tie.Need-enum-told-4
+enum-told-4 c = search needs
+
+returns-2 : tie.Need-returns-2
+returns-2 c = λ e. absurd (true≢false (sym e))
+
+enum-told-5 : tie.Need-enum-told-5
+enum-told-5 c = search needs
+
+enum-told-6 : tie.Need-enum-told-6
+enum-told-6 c = search needs
+
+returns-3 : tie.Need-returns-3
+returns-3 c = λ e. absurd (true≢false (sym e))
+
+enum-told-7 : tie.Need-enum-told-7
+enum-told-7 c = search needs
+
+enum-told-8 : tie.Need-enum-told-8
+enum-told-8 c = search needs
+
+returns-4 : tie.Need-returns-4
+returns-4 c = λ e. absurd (true≢false (sym e))
+
+enum-told-9 : tie.Need-enum-told-9
+enum-told-9 c = search needs
+
+enum-told-10 : tie.Need-enum-told-10
+enum-told-10 c = search needs
+
+returns-5 : tie.Need-returns-5
+returns-5 c = λ e. absurd (true≢false (sym e))
+
+enum-told-11 : tie.Need-enum-told-11
+enum-told-11 c = search needs
+
+enum-told-12 : tie.Need-enum-told-12
+enum-told-12 c = search needs
+
+returns-6 : tie.Need-returns-6
+returns-6 c = λ e. absurd (true≢false (sym e))
+
+enum-told-13 : tie.Need-enum-told-13
+enum-told-13 c = search needs
+
+enum-told-14 : tie.Need-enum-told-14
+enum-told-14 c = search needs
+
+returns-7 : tie.Need-returns-7
+returns-7 c = λ e. absurd (true≢false (sym e))
+
+enum-told-15 : tie.Need-enum-told-15
+enum-told-15 c = search needs
+
+enum-told-16 : tie.Need-enum-told-16
+enum-told-16 c = search needs
+
+returns-8 : tie.Need-returns-8
+returns-8 c = λ e. absurd (true≢false (sym e))
+
+returns-9 : tie.Need-returns-9
+returns-9 c = λ e. every _ (λ i k. refl) (λ i k. refl) (λ i k. refl)
+    (ap points (c .before .before .before .before .before .before .before .before .before .before .before .before .before .enum-told3 .given .1)) (ap points (c .before .before .before .before .before .before .before .before .before .before .before .enum-told5 .given .1)) (ap points (c .before .before .before .before .before .before .before .before .before .enum-told7 .given .1))
+    (ap stands (c .before .before .before .before .before .before .before .enum-told9 .given .1)) (λ k. ap (λ n. shown 2 n k) (eqb-true _ 0 e) ∙ none-shown 2 k)
+    (ap stands (c .before .before .before .before .before .enum-told11 .given .1)) (ap stands (c .before .before .before .enum-told13 .given .1)) (ap stands (c .before .enum-told15 .given .1)) (ap stands (c .before .before .before .before .before .before .before .before .before .before .before .before .before .before .before .enum-told .given .1))
 
 pub nothing-left-spec : {M : Type 1} → statement M
 nothing-left-spec =
     tie.close
     (tie.spec
-    nowhere-requires
-    nowhere-requires-2
-    nowhere-requires-3
-    both-hold-requires
-    both-hold-requires-2
-    nothing-set-requires
-    both-hold-requires-3
-    returns)
+    enum-told
+    enum-told-2
+    returns
+    enum-told-3
+    enum-told-4
+    returns-2
+    enum-told-5
+    enum-told-6
+    returns-3
+    enum-told-7
+    enum-told-8
+    returns-4
+    enum-told-9
+    enum-told-10
+    returns-5
+    enum-told-11
+    enum-told-12
+    returns-6
+    enum-told-13
+    enum-told-14
+    returns-7
+    enum-told-15
+    enum-told-16
+    returns-8
+    returns-9)

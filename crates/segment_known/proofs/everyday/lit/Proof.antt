@@ -8,7 +8,7 @@ put-byte-requires : tie.Need-put-byte-requires
 put-byte-requires c κs = search needs
 
 returns : tie.Need-returns
-returns c = λ s cells. lit-told (c .before .before .args .c) (c .before .before .args .byte) _ (c .before .put-byte .ensures) cells
+returns c = λ s cells. lit-told (c .before .args .c) (c .before .args .byte) _ (c .put-byte .ensures) cells
 
 pub lit-spec : {M : Type 1} → statement M
 lit-spec = tie.close (tie.spec put-byte-requires returns)

@@ -8,7 +8,7 @@ meet-code-requires : tie.Need-meet-code-requires
 meet-code-requires c κs = search needs
 
 returns : tie.Need-returns
-returns c = record { others = refl; lit = c .before .meet-code .ensures }
+returns c = record { others = refl; lit = c .meet-code .ensures }
 
 pub perhaps-lit-spec : {M : Type 1} → statement M
 perhaps-lit-spec = tie.close (tie.spec meet-code-requires returns)
