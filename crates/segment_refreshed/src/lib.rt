@@ -10,12 +10,10 @@ use segment_knowledge::Pointing;
 use segment_knowledge::WRITE_DISPLAY;
 use standing::Standing;
 use terms::Address;
+use updating::reads_behind;
 ghost use mathlib.Core.Path.{_≡_};
 ghost use Prim.Native.Nat.{_≤_};
 ghost use lib.ListN.{length};
-ghost use Rattle.rules.specs.Choice.{whether};
-ghost use Rattle.knowing.specs.Standing.{known};
-ghost use Rattle.standing.specs.View.{stands};
 ghost use Rattle.segment.specs.Family.{sizes};
 ghost use Rattle.segment.specs.Fact.{Fact};
 ghost use Rattle.segment_knowledge.specs.View.{kview};
@@ -50,13 +48,6 @@ pub fn refreshed(
             ..control
         },
     }
-}
-
-// 40H sets the reading count back.
-fn reads_behind(set: bool, count: Standing) -> Standing
-    ensures { λ r. ⌜ stands r ≡ whether set (stands count) (known 0) ⌝ }
-{
-    if set { count } else { Standing::Known(0) }
 }
 
 // The first n cells are known to hold their wanted bytes: those that were sent, and those that held them before.

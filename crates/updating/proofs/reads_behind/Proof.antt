@@ -1,7 +1,7 @@
--- `segment_refreshed::reads_behind` meets its contract: each way is one case.
+-- `updating::reads_behind` meets its contract: each way is one case.
 -- Assumes nothing.
-use Rattle.segment_refreshed.proofs.reads_behind.Statement.{statement}
-use Rattle.segment_refreshed.proofs.reads_behind.Tie as tie
+use Rattle.updating.proofs.reads_behind.Statement.{statement}
+use Rattle.updating.proofs.reads_behind.Tie as tie
 
 returns : tie.Need-returns
 returns c = rw (c .if1 .taken)
