@@ -30,20 +30,14 @@ pub fn byte_in(c: Control, byte: u8) -> Step
 {
     let position = c.position;
     match position {
-        Standing::Known(place) => in_at(c, byte, place),
+        Standing::Known(place) => match place {
+            FIRST => first_in(c, byte),
+            DCRAM => to_show(c, byte),
+            CGRAM => to_draw(c, byte),
+            ADRAM => to_mark(c, byte),
+            _ => kept(c),
+        },
         Standing::Unknown => in_anywhere(c, byte),
-    }
-}
-
-fn in_at(c: Control, byte: u8, place: u8) -> Step
-    ensures { λ r. ⌜ Steps (byteIn byte place) c r ⌝ }
-{
-    match place {
-        FIRST => first_in(c, byte),
-        DCRAM => to_show(c, byte),
-        CGRAM => to_draw(c, byte),
-        ADRAM => to_mark(c, byte),
-        _ => kept(c),
     }
 }
 

@@ -49,16 +49,9 @@ pub fn goes_to(c: Control) -> Target
     ensures { λ r. ⌜ Hits c r ⌝ }
 {
     let position = c.position;
-    match position {
-        Standing::Known(place) => goes_from(c, place),
-        Standing::Unknown => Target::Elsewhere,
-    }
-}
-
-fn goes_from(c: Control, place: u8) -> Target
-    requires { ⌜ stands (c .position) ≡ known place ⌝ }
-    ensures { λ r. ⌜ Hits c r ⌝ }
-{
+    let Standing::Known(place) = position else {
+        return Target::Elsewhere;
+    };
     match place {
         FIRST => Target::Elsewhere,
         DCRAM => shows(c),

@@ -13,7 +13,7 @@ use Rattle.knowing.specs.Know.{lifted, learn, join, common, know}
 use Rattle.knowing.specs.Join.{join-itself, common-two}
 use Rattle.knowing.specs.Look.{look-unknown}
 use Rattle.knowing.specs.Ways as Ways
-use Rattle.knowing.specs.Ways.{Way, Becomes, Joins, known-way, as-rule}
+use Rattle.knowing.specs.Ways.{Way, Becomes, Joins, known-way}
 use Rattle.segment.specs.declared.chip.Sizes.{Sizes}
 use Rattle.segment.specs.declared.chip.Position.the-variants.{Ignoring}
 use Rattle.segment.specs.declared.chip.Display.the-variants.{Off}
@@ -34,10 +34,6 @@ use Rattle.standing.specs.declared.standing.Standing.the-variants.{Known}
 use Rattle.segment_knowledge.specs.declared.control.Control.{Control as Beside}
 use Rattle.segment_knowledge.specs.View.{cview}
 use Rattle.segment_steps.specs.Step.{Keeps}
-
--- What keeps the cells by one rule does so by a rule that is the same, whatever the control is called.
-pub keeps-by : (s : Sizes) (c d : Beside) {x y : Rule Fact Fact} {e : Beside} → e ≡ d → x ≡ y → Keeps s y c d → Keeps s x c e
-keeps-by s c d {x} {y} {e} p q h = subst⁻¹ (λ (z : Beside). Keeps s x c z) p (λ cells. as-rule (cview cells) (cview cells) same? (range s) x y c d q (h cells))
 
 -- The choices that no number of the code's match names.
 pub other-in : (a b : Rule Fact Fact) (n : ℕ) → ¬ (n ≡ 1) → ¬ (n ≡ 2) → of4 nothing a b nothing n ≡ nothing

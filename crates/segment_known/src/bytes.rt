@@ -22,7 +22,7 @@ use segment_steps::kept;
 use standing::Standing;
 ghost use mathlib.Core.Path.{_≡_};
 ghost use Rattle.rules.specs.Rule.{look};
-ghost use Rattle.knowing.specs.Standing.{known, unknown};
+ghost use Rattle.knowing.specs.Standing.{unknown};
 ghost use Rattle.standing.specs.View.{stands};
 ghost use Rattle.segment.specs.Fact.{dataMode, position};
 ghost use Rattle.segment.specs.Family.{sizes};
@@ -80,21 +80,14 @@ fn data_in(family: Family, c: Control, byte: u8) -> Written
     ensures { λ r. ⌜ Writes (sizes family) byte c r ⌝ }
 {
     let data = c.data;
-    match data {
-        Standing::Known(mode) => written_in(family, c, byte, mode),
-        Standing::Unknown => perhaps_written(family, c, byte),
-    }
-}
-
-fn written_in(family: Family, c: Control, byte: u8, mode: u8) -> Written
-    requires { ⌜ stands (c .«data») ≡ known mode ⌝ }
-    ensures { λ r. ⌜ Writes (sizes family) byte c r ⌝ }
-{
+    let Standing::Known(mode) = data else {
+        return perhaps_written(family, c, byte);
+    };
     let address = c.address;
     let led = c.led;
-    let stepping = c.stepping;
     match mode {
         WRITE_DISPLAY => {
+            let stepping = c.stepping;
             let stored = stored_by(family, address, stepping, byte);
             let to = stored.address;
             let change = stored.change;

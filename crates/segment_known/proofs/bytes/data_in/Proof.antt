@@ -1,6 +1,14 @@
--- `segment_known::bytes::data_in` meets its contract: the data mode is known, or not. Assumes nothing.
-use mathlib.Core.Path.{ap}
+-- `segment_known::bytes::data_in` meets its contract: each arm knows the data mode, or that it is unknown. Assumes nothing.
+use mathlib.Core.Path.{refl, ap, _∙_}
+use Rattle.knowing.specs.Standing.{known}
 use Rattle.standing.specs.View.{stands}
+use Rattle.segment.specs.Fact.{dataMode}
+use Rattle.segment.specs.Family.{sizes}
+use Rattle.segment.specs.Move.{written}
+use Rattle.segment_steps.specs.StepLaws.{as-steps, kept-steps}
+use Rattle.segment_steps.specs.StepWays.{step-known}
+use Rattle.segment_known.specs.Ways.{other-written}
+use Rattle.segment_known.specs.Writes.{lit-told}
 use borrow.Author.Needs.{needs}
 use Rattle.segment_known.proofs.bytes.data_in.Statement.{statement}
 use Rattle.segment_known.proofs.bytes.data_in.Tie as tie
@@ -8,28 +16,46 @@ use Rattle.segment_known.proofs.bytes.data_in.Tie as tie
 enum-known-data : tie.Need-enum-known-data
 enum-known-data c = search needs
 
-written-in-requires : tie.Need-written-in-requires
-written-in-requires c κs = ap stands (c .before .«data» .given .1)
-
 enum-told : tie.Need-enum-told
 enum-told c = search needs
 
 perhaps-written-requires : tie.Need-perhaps-written-requires
-perhaps-written-requires c κs = search needs
+perhaps-written-requires c κs = ap stands (c .enum-told .given .1)
 
 returns : tie.Need-returns
 returns c = search needs
 
+stored-by-requires : tie.Need-stored-by-requires
+stored-by-requires c κs = search needs
+
+put-byte-requires : tie.Need-put-byte-requires
+put-byte-requires c κs = search needs
+
 returns-2 : tie.Need-returns-2
-returns-2 c = search needs
+returns-2 c = let a = c .before .before .before .before .before .args in
+    let s = sizes (a .family) in
+    step-known s dataMode (written s (a .byte)) (a .c) 0 (λ cells. ap stands (c .before .before .before .«data» .given .1) ∙ ap known (c .before .match2 .keys1)) (c .stored-by .ensures (a .c) refl refl)
+
+returns-3 : tie.Need-returns-3
+returns-3 c = let a = c .before .before .before .before .before .args in
+    let s = sizes (a .family) in
+    step-known s dataMode (written s (a .byte)) (a .c) 1 (λ cells. ap stands (c .before .before .before .«data» .given .1) ∙ ap known (c .before .match2 .keys2)) (kept-steps refl (λ cells. lit-told (a .c) (a .byte) _ (c .put-byte .ensures) cells))
+
+returns-4 : tie.Need-returns-4
+returns-4 c = let a = c .before .before .before .before .args in
+    let s = sizes (a .family) in
+    step-known s dataMode (written s (a .byte)) (a .c) _ (λ cells. ap stands (c .before .before .«data» .given .1)) (as-steps (other-written _ _ _ (c .match2 .rest .0 .1) (c .match2 .rest .1)) (kept-steps refl (λ cells f. refl)))
 
 pub data-in-spec : {M : Type 1} → statement M
 data-in-spec =
     tie.close
     (tie.spec
     enum-known-data
-    written-in-requires
     enum-told
     perhaps-written-requires
     returns
-    returns-2)
+    stored-by-requires
+    put-byte-requires
+    returns-2
+    returns-3
+    returns-4)

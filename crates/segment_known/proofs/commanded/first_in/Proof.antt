@@ -10,10 +10,10 @@ use Rattle.segment.specs.Family.{sizes}
 use Rattle.segment.specs.Move.{commanded}
 use Rattle.segment_knowledge.specs.View.{cview}
 use Rattle.segment_steps.specs.declared.steps.Step.{Step}
-use Rattle.segment_steps.specs.Step.{Keeps}
+use Rattle.segment_steps.specs.Step.{Steps, keptOf}
 use Rattle.changes.specs.Change.{Plain}
-use Rattle.segment_steps.specs.StepLaws.{kept-steps, forgotten-steps}
-use Rattle.segment_known.specs.Ways.{mode-small, keeps-by}
+use Rattle.segment_steps.specs.StepLaws.{kept-steps, forgotten-steps, as-steps}
+use Rattle.segment_known.specs.Ways.{mode-small}
 use borrow.Author.Needs.{needs}
 use Rattle.segment_known.proofs.commanded.first_in.Statement.{statement}
 use Rattle.segment_known.proofs.commanded.first_in.Tie as tie
@@ -73,10 +73,16 @@ kept-requires c κs = search needs
 
 returns-2 : tie.Need-returns-2
 returns-2 c = let a = c .before .before .before .args in
+    let s = sizes (a .family) in
     let e = sym (c .before .before .command-of .ensures) in
-    let k : Keeps (sizes (a .family)) (commanded (commandOf (sizes (a .family)) (a .byte))) (a .c) (c .before .match .c) =
-    ⊎-elim (λ w. keeps-by (sizes (a .family)) (a .c) (w .3 .result) (w .4) (ap commanded (e ∙ w .1 .given .1)) (w .3 .ensures)) (⊎-elim (λ w. keeps-by (sizes (a .family)) (a .c) (w .3 .result) (w .4) (ap commanded (e ∙ w .1 .given .1)) (w .3 .ensures)) (⊎-elim (λ w. keeps-by (sizes (a .family)) (a .c) (w .3 .result) (w .4) (ap commanded (e ∙ w .1 .given .1)) (w .3 .ensures)) (⊎-elim (λ w. keeps-by (sizes (a .family)) (a .c) (w .3 .result) (w .4) (ap commanded (e ∙ w .1 .given .1)) (w .3 .ensures)) (λ w. keeps-by (sizes (a .family)) (a .c) (w .3 .result) (w .4) (ap commanded (e ∙ w .1 .given .1)) (w .3 .ensures))))) (c .before .match .came) in
-    (kept-steps (c .kept .ensures) k, subst⁻¹ (λ (x : Step). Plain (x .change)) (c .kept .ensures) tt)
+    let k : Steps s (commanded (commandOf s (a .byte))) (a .c) (c .kept .result) =
+    ⊎-elim (λ w. as-steps (ap commanded (e ∙ w .1 .given .1)) (kept-steps (c .kept .ensures ∙ ap keptOf (w .4)) (w .3 .ensures)))
+    (⊎-elim (λ w. as-steps (ap commanded (e ∙ w .1 .given .1)) (kept-steps (c .kept .ensures ∙ ap keptOf (w .4)) (w .3 .ensures)))
+    (⊎-elim (λ w. as-steps (ap commanded (e ∙ w .1 .given .1)) (kept-steps (c .kept .ensures ∙ ap keptOf (w .4)) (w .3 .ensures)))
+    (⊎-elim (λ w. as-steps (ap commanded (e ∙ w .1 .given .1)) (kept-steps (c .kept .ensures ∙ ap keptOf (w .4)) (w .3 .ensures)))
+    (λ w. as-steps (ap commanded (e ∙ w .1 .given .1)) (kept-steps (c .kept .ensures ∙ ap keptOf (w .4)) (w .3 .ensures))))))
+    (c .before .match .came) in
+    (k, subst⁻¹ (λ (x : Step). Plain (x .change)) (c .kept .ensures) tt)
 
 pub first-in-spec : {M : Type 1} → statement M
 first-in-spec =

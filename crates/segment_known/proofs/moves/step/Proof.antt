@@ -1,12 +1,11 @@
 -- `segment_known::moves::step` meets its contract: each arm knows the event.
 -- Assumes nothing.
-use mathlib.Core.Path.{_≡_, ap}
+use mathlib.Core.Path.{ap, _∙_}
 use mathlib.Core.Logic.{⊎-elim}
 use Rattle.segment.specs.Family.{sizes}
 use Rattle.segment.specs.Move.{move}
-use Rattle.segment_steps.specs.Step.{Keeps}
+use Rattle.segment_steps.specs.Step.{keptOf}
 use Rattle.segment_steps.specs.StepLaws.{kept-steps, forgotten-steps, as-steps}
-use Rattle.segment_known.specs.Ways.{keeps-by}
 use borrow.Author.Needs.{needs}
 use Rattle.segment_known.proofs.moves.step.Statement.{statement}
 use Rattle.segment_known.proofs.moves.step.Tie as tie
@@ -81,17 +80,14 @@ kept-requires : tie.Need-kept-requires
 kept-requires c κs = search needs
 
 returns-4 : tie.Need-returns-4
-returns-4 c = let a = c .before .before .args in
-    let s = sizes (a .family) in
-    let k : Keeps s (move s (a .event)) (a .c) (c .before .match .c) =
-    ⊎-elim (λ w. keeps-by s (a .c) (w .2 .result) (w .3) (ap (move s) (w .1 .given .1)) (w .2 .ensures .0 s))
-    (⊎-elim (λ w. keeps-by s (a .c) (w .2 .result) (w .3) (ap (move s) (w .1 .given .1)) (w .2 .ensures s))
-    (⊎-elim (λ w. keeps-by s (a .c) (w .2 .result) (w .3) (ap (move s) (w .1 .given .1)) (w .2 .ensures s))
-    (⊎-elim (λ w. keeps-by s (a .c) (w .3 .result) (w .4) (ap (move s) (w .1 .given .1)) (w .3 .ensures))
-    (⊎-elim (λ w. keeps-by s (a .c) (w .3 .result) (w .4) (ap (move s) (w .1 .given .1)) (w .3 .ensures))
-    (λ w. keeps-by s (a .c) (w .2 .result) (w .3) (ap (move s) (w .1 .given .1)) (w .2 .ensures))))))
-    (c .before .match .came) in
-    kept-steps (c .kept .ensures) k
+returns-4 c = let s = sizes (c .before .before .args .family) in
+    ⊎-elim (λ w. as-steps (ap (move s) (w .1 .given .1)) (kept-steps (c .kept .ensures ∙ ap keptOf (w .3)) (w .2 .ensures .0 s)))
+    (⊎-elim (λ w. as-steps (ap (move s) (w .1 .given .1)) (kept-steps (c .kept .ensures ∙ ap keptOf (w .3)) (w .2 .ensures s)))
+    (⊎-elim (λ w. as-steps (ap (move s) (w .1 .given .1)) (kept-steps (c .kept .ensures ∙ ap keptOf (w .3)) (w .2 .ensures s)))
+    (⊎-elim (λ w. as-steps (ap (move s) (w .1 .given .1)) (kept-steps (c .kept .ensures ∙ ap keptOf (w .4)) (w .3 .ensures)))
+    (⊎-elim (λ w. as-steps (ap (move s) (w .1 .given .1)) (kept-steps (c .kept .ensures ∙ ap keptOf (w .4)) (w .3 .ensures)))
+    (λ w. as-steps (ap (move s) (w .1 .given .1)) (kept-steps (c .kept .ensures ∙ ap keptOf (w .3)) (w .2 .ensures)))))))
+    (c .before .match .came)
 
 pub step-spec : {M : Type 1} → statement M
 step-spec =
