@@ -3,7 +3,6 @@ use character_knowledge::Control;
 use character_knowledge::Pointing;
 use lamp_tests::none_known;
 use standing::Standing;
-use standing::both_hold;
 ghost use mathlib.Core.Path.{_≡_};
 ghost use mathlib.Core.Bool.{true};
 ghost use Rattle.knowing.specs.Standing.{unknown};
@@ -14,10 +13,7 @@ pub fn nothing_known(c: Control, dcram: &[u16], cgram: &[u16], adram: &[u16]) ->
     ensures { λ r. ⌜ (r ≡ true → (f : Fact) → kview (record { dcram = now (dcram .entry); cgram = now (cgram .entry); adram = now (adram .entry); control = c }) f ≡ unknown) ⌝ }
 {
     if nothing_left(c) {
-        return both_hold(
-            none_known(dcram),
-            both_hold(none_known(cgram), none_known(adram)),
-        );
+        return none_known(dcram) & (none_known(cgram) & none_known(adram));
     }
     false
 }

@@ -45,9 +45,6 @@ both-inside {a} {b} {r} h p q = subst⁻¹ (λ (x : Change). Inside 36 x) (h .ch
 pub kept-with : {c : Control} {a b : Step} → a ≡ keptOf c → Told a b
 kept-with {c} {a} {b} e = record { so = subst⁻¹ (λ (x : Step). Together (x .change) (b .change)) e tt }
 
-pub with-kept : {c : Control} {a b : Step} → b ≡ keptOf c → Told a b
-with-kept {c} {a} {b} e = record { so = subst⁻¹ (λ (x : Step). Together (a .change) (x .change)) e (together-plain (a .change) Keep tt) }
-
 -- A step that keeps the cells, joined with a command, and a third.
 pub plain-first : {c : Control} {a b r d : Step} → a ≡ keptOf c → Plain (b .change) → Both a b r → Told r d
 plain-first {c} {a} {b} {r} {d} e p h =

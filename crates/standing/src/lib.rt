@@ -2,7 +2,6 @@
 mod standing;
 
 pub use standing::Standing;
-pub use standing::both_hold;
 pub use standing::both_standing;
 pub use standing::is_known;
 pub use standing::within;

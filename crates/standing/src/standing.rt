@@ -1,6 +1,5 @@
 // A single fact.
 ghost use mathlib.Core.Path.{_≡_};
-ghost use mathlib.Core.Bool.{_&&_};
 ghost use Rattle.knowing.specs.Standing.{Within};
 ghost use Rattle.knowing.specs.Know.{join};
 ghost use Rattle.knowing.specs.Holds.{isKnown};
@@ -50,11 +49,4 @@ pub fn within(s: Standing, limit: u8) -> bool
         Standing::Known(v) => v < limit,
         Standing::Unknown => true,
     }
-}
-
-// Both tests hold.
-pub fn both_hold(a: bool, b: bool) -> bool
-    ensures { λ r. ⌜ r ≡ (a && b) ⌝ }
-{
-    if a { b } else { false }
 }

@@ -1,6 +1,6 @@
 -- `character_known::lost::nothing_known` meets its contract: nothing is known beside the memory, and nothing of each row.
 -- Assumes nothing.
-use mathlib.Core.Path.{sym, _∙_}
+use mathlib.Core.Path.{sym}
 use mathlib.Core.Bool.{true≢false}
 use Rattle.rules.specs.Choice.{both}
 use Rattle.character.specs.Fact.{dcramAt, cgramAt, adramAt, column, port, duty, digits, lights, position}
@@ -21,18 +21,12 @@ none-known-requires-2 c κs = search needs
 none-known-requires-3 : tie.Need-none-known-requires-3
 none-known-requires-3 c κs = search needs
 
-both-hold-requires : tie.Need-both-hold-requires
-both-hold-requires c κs = search needs
-
-both-hold-requires-2 : tie.Need-both-hold-requires-2
-both-hold-requires-2 c κs = search needs
-
 returns : tie.Need-returns
 returns c = λ e.
-    let all = both _ _ (sym (c .both-hold2 .ensures) ∙ e) in
-    let two = both _ _ (sym (c .before .both-hold .ensures) ∙ all .1) in
-    let u = c .before .before .before .before .before .before .nothing-left .ensures (c .before .before .before .before .before .if1 .taken) in
-    every _ (λ i k. c .before .before .before .before .none-known .ensures (all .0) 8 i k) (λ i k. c .before .before .before .none-known2 .ensures (two .0) 7 i k) (λ i k. c .before .before .none-known3 .ensures (two .1) 2 i k)
+    let all = both _ _ e in
+    let two = both _ _ (all .1) in
+    let u = c .before .before .before .before .nothing-left .ensures (c .before .before .before .if1 .taken) in
+    every _ (λ i k. c .before .before .none-known .ensures (all .0) 8 i k) (λ i k. c .before .none-known2 .ensures (two .0) 7 i k) (λ i k. c .none-known3 .ensures (two .1) 2 i k)
     (u dcramAt) (u cgramAt) (u adramAt) (u column) (λ k. u (port k)) (u duty) (u digits) (u lights) (u position)
 
 returns-2 : tie.Need-returns-2
@@ -46,7 +40,5 @@ nothing-known-spec =
     none-known-requires
     none-known-requires-2
     none-known-requires-3
-    both-hold-requires
-    both-hold-requires-2
     returns
     returns-2)
