@@ -35,8 +35,8 @@ impl Word {
         }
     }
 
-    // A closing bracket counts for nothing.
-    fn with(self, c: u8) -> Word {
+    // The word with one more character that does not end it. A closing bracket counts for nothing.
+    pub fn with(self, c: u8) -> Word {
         match c {
             b'0'..=b'9' => self.with_digit(c - 48),
             b'A'..=b'F' => self.with_digit(c - 55),

@@ -15,7 +15,7 @@
 //
 // What is written is the answer to the last event, where it is refused, what is known then, and the report.
 use crate::in_words;
-use example_panels::show_known;
+use crate::known::show_known;
 use example_text::Line;
 use example_text::hex;
 use example_text::text;

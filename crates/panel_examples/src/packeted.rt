@@ -7,12 +7,12 @@
 //
 // What is written behind a line is the answer to its packet; what is known then, as `recordings` has it; the unfinished bytes, the total and the standing
 // refusal, if there are any; and the answer to closing then, which changes nothing.
+use crate::example::Example;
 use crate::in_words::answered;
+use crate::known::show_known;
 use account::count_of;
 use account::held;
 use account::joined;
-use example_panels::Example;
-use example_panels::show_known;
 use example_text::Word;
 use example_text::bytes;
 use example_text::number;
@@ -26,18 +26,14 @@ use packets::taken;
 use panel::Panel;
 use terms::Place;
 
-pub fn run(example: Example, feed: Feed, bytes: &[u8]) -> Feed {
-    let after = after(example, feed, bytes);
-    keeps(example.part, after);
-    after
-}
-
-fn after(example: Example, feed: Feed, bytes: &[u8]) -> Feed {
-    if example.packet {
+pub fn run(example: Example, feed: Feed, panel: Panel, bytes: &[u8]) -> Feed {
+    let after = if example.packet {
         takes(example.part, feed, bytes)
     } else {
-        begins(example, feed.panel, bytes)
-    }
+        begins(example, panel, bytes)
+    };
+    keeps(example.part, after);
+    after
 }
 
 fn takes(part: u8, feed: Feed, packet: &[u8]) -> Feed {

@@ -2,7 +2,7 @@
 //
 // A line is a part byte and a recording. The replay starts at place 0, knowing nothing, unless words between the bytes say otherwise.
 //     @0007   the replay starts at place 0007H
-//     known   everything is known, as `example_panels` has it
+//     known   everything is known, as `told` has it
 //     led     the LED of PT6312 and PT6315 is known as 16, which is out of range
 //     port    the port of PT6302 is known as 4, which is out of range
 // known stands before the others.
@@ -10,9 +10,9 @@
 // What is written is the replay's answer; what is known then, of single facts only the known ones; and the tail finder's answer, with the tail's start,
 // end, length and first 16 bytes. Where the part byte names no part, or one of the last three words stands in the line, both halves of the knowledge
 // are shown, so that one sees what a refusal leaves as it was.
+use crate::example::Example;
 use crate::in_words::answered;
-use example_panels::Example;
-use example_panels::show_known;
+use crate::known::show_known;
 use example_text::bytes;
 use example_text::character;
 use example_text::number;

@@ -6,10 +6,10 @@
 //
 // What is written is the update's answer, with how many bytes go over the wire; the bytes; how many bytes behind them are as before, which were A5; and of
 // a stream that was sent, what its replay answers, and what `refresh` says is known then, as `recordings` has it.
+use crate::example::Example;
 use crate::in_words::answered;
 use crate::in_words::refused;
-use example_panels::Example;
-use example_panels::show_known;
+use crate::known::show_known;
 use example_text::bytes;
 use example_text::character;
 use example_text::number;
