@@ -1,57 +1,58 @@
 // The panel of what words told.
+use crate::told::Characters;
+use crate::told::Segments;
 use crate::told::Told;
 use panel::Panel;
 use standing::Standing;
 use terms::Address;
 
 pub fn panel_of(t: Told) -> Panel {
-    let cells = t.cells;
-    let keys = t.keys;
-    let row = t.segment;
-    let segment = segment_knowledge::Knowledge {
-        cells,
-        control: segments(keys, row),
-    };
-    let dcram = t.dcram;
-    let cgram = t.cgram;
-    let adram = t.adram;
-    let row = t.character;
-    let character = character_knowledge::Knowledge {
-        dcram,
-        cgram,
-        adram,
-        control: characters(row),
-    };
-    Panel { segment, character }
-}
-
-fn segments(keys: [u16; 4], row: [u16; 10]) -> segment_knowledge::Control {
-    segment_knowledge::Control {
-        address: segment_address(row[3]),
-        data: fact(row[1]),
-        stepping: fact(row[2]),
-        mode: fact(row[5]),
-        dimming: fact(row[6]),
-        display: fact(row[7]),
-        led: row[8],
-        keys,
-        switches: fact(row[9]),
-        count: fact(row[4]),
-        position: fact(row[0]),
+    Panel {
+        segment: segments(t.segment),
+        character: characters(t.character),
     }
 }
 
-fn characters(row: [u16; 9]) -> character_knowledge::Control {
-    character_knowledge::Control {
-        dcram_at: character_address(row[1]),
-        cgram_at: character_address(row[2]),
-        adram_at: character_address(row[4]),
-        column: fact(row[3]),
-        port: row[5],
-        duty: fact(row[6]),
-        digits: fact(row[7]),
-        lights: fact(row[8]),
-        position: fact(row[0]),
+fn segments(t: Segments) -> segment_knowledge::Knowledge {
+    let cells = t.cells;
+    let keys = t.keys;
+    segment_knowledge::Knowledge {
+        cells,
+        control: segment_knowledge::Control {
+            address: segment_address(t.address),
+            data: fact(t.data),
+            stepping: fact(t.stepping),
+            mode: fact(t.mode),
+            dimming: fact(t.dimming),
+            display: fact(t.display),
+            led: t.led,
+            keys,
+            switches: fact(t.switches),
+            count: fact(t.count),
+            position: fact(t.position),
+        },
+    }
+}
+
+fn characters(t: Characters) -> character_knowledge::Knowledge {
+    let dcram = t.dcram;
+    let cgram = t.cgram;
+    let adram = t.adram;
+    character_knowledge::Knowledge {
+        dcram,
+        cgram,
+        adram,
+        control: character_knowledge::Control {
+            dcram_at: character_address(t.dcram_at),
+            cgram_at: character_address(t.cgram_at),
+            adram_at: character_address(t.adram_at),
+            column: fact(t.column),
+            port: t.port,
+            duty: fact(t.duty),
+            digits: fact(t.digits),
+            lights: fact(t.lights),
+            position: fact(t.position),
+        },
     }
 }
 

@@ -1,7 +1,11 @@
 // What a word says of a panel.
 use crate::example::Example;
+use crate::told::Characters;
+use crate::told::Segments;
 use crate::told::Told;
 use crate::told::all_known;
+use crate::told::no_characters;
+use crate::told::no_segments;
 use crate::told::nothing_known;
 use example_text::Word;
 
@@ -25,39 +29,46 @@ pub fn told(t: Told, example: Example, word: Word) -> Told {
 }
 
 // A word behind the part byte speaks of PT6312 and PT6315 where that names no part.
-fn behind(t: Told, example: Example, word: Word) -> Told {
+fn behind(mut t: Told, example: Example, word: Word) -> Told {
     if example.section == b'r' {
         return starts(t, word.name);
     }
     if example.part == 0x02 {
-        characters(t, word)
+        t.character = characters(t.character, word);
     } else {
-        segments(t, word)
+        t.segment = segments(t.segment, word);
     }
+    t
 }
 
 // The words of a recording: known, and then led or port, with a value that is out of range.
 fn starts(mut t: Told, name: u8) -> Told {
     match name {
         b'k' => return all_known(),
-        b'l' => t.segment[8] = 0x0F10,
-        b'p' => t.character[5] = 0x0304,
+        b'l' => t.segment = with_led(t.segment),
+        b'p' => t.character = with_port(t.character),
         _ => {}
     }
     t
 }
 
+fn with_led(mut t: Segments) -> Segments {
+    t.led = 0x0F10;
+    t
+}
+
+fn with_port(mut t: Characters) -> Characters {
+    t.port = 0x0304;
+    t
+}
+
 // Of a word's letters the first counts.
-fn segments(mut t: Told, word: Word) -> Told {
+fn segments(mut t: Segments, word: Word) -> Segments {
     let name = word.name;
     let at = word.at;
     let code = word.code();
     match name {
-        b'n' => {
-            t.cells = [0; 36];
-            t.keys = [256; 4];
-            t.segment = [256, 256, 256, 256, 256, 256, 256, 256, 0, 256];
-        }
+        b'n' => return no_segments(),
         b'e' => t.cells = [word.lamps(0xFF); 36],
         b'c' => {
             if at < 36 {
@@ -69,33 +80,28 @@ fn segments(mut t: Told, word: Word) -> Told {
                 t.keys[at] = code;
             }
         }
-        b'l' => t.segment[8] = word.lamps(0x0F),
-        b'i' => t.segment[3] = 257,
-        b'p' => t.segment[0] = code,
-        b'd' => t.segment[1] = code,
-        b'f' => t.segment[2] = code,
-        b'a' => t.segment[3] = code,
-        b'r' => t.segment[4] = code,
-        b'm' => t.segment[5] = code,
-        b'b' => t.segment[6] = code,
-        b'o' => t.segment[7] = code,
-        b's' => t.segment[9] = code,
+        b'i' => t.address = 257,
+        b'p' => t.position = code,
+        b'd' => t.data = code,
+        b'f' => t.stepping = code,
+        b'a' => t.address = code,
+        b'r' => t.count = code,
+        b'm' => t.mode = code,
+        b'b' => t.dimming = code,
+        b'o' => t.display = code,
+        b'l' => t.led = word.lamps(0x0F),
+        b's' => t.switches = code,
         _ => {}
     }
     t
 }
 
-fn characters(mut t: Told, word: Word) -> Told {
+fn characters(mut t: Characters, word: Word) -> Characters {
     let name = word.name;
     let at = word.at;
     let code = word.code();
     match name {
-        b'n' => {
-            t.dcram = [0; 16];
-            t.cgram = [0; 40];
-            t.adram = [0; 16];
-            t.character = [256, 256, 256, 256, 256, 0, 256, 256, 256];
-        }
+        b'n' => return no_characters(),
         b't' => {
             if at < 16 {
                 t.dcram[at] = word.lamps(0xFF);
@@ -111,15 +117,15 @@ fn characters(mut t: Told, word: Word) -> Told {
                 t.adram[at] = word.lamps(0x03);
             }
         }
-        b'o' => t.character[5] = word.lamps(0x03),
-        b'p' => t.character[0] = code,
-        b'd' => t.character[1] = code,
-        b'g' => t.character[2] = code,
-        b'c' => t.character[3] = code,
-        b'a' => t.character[4] = code,
-        b'b' => t.character[6] = code,
-        b'w' => t.character[7] = code,
-        b'l' => t.character[8] = code,
+        b'p' => t.position = code,
+        b'd' => t.dcram_at = code,
+        b'g' => t.cgram_at = code,
+        b'a' => t.adram_at = code,
+        b'c' => t.column = code,
+        b'o' => t.port = word.lamps(0x03),
+        b'b' => t.duty = code,
+        b'w' => t.digits = code,
+        b'l' => t.lights = code,
         _ => {}
     }
     t
