@@ -26,15 +26,6 @@ impl Word {
         c == b'\n'
     }
 
-    // The word that is being read after one more character.
-    pub fn after(self, c: u8) -> Word {
-        if self.ends(c) {
-            Word::new()
-        } else {
-            self.with(c)
-        }
-    }
-
     // The word with one more character that does not end it. A closing bracket counts for nothing.
     pub fn with(self, c: u8) -> Word {
         match c {

@@ -88,6 +88,7 @@ fn ended(feed: Feed, example: Example, knows: Told, memory: &[u8]) -> Feed {
     }
 }
 
+// Where no packets are taken, what was told is what a packet behind the line would start from.
 fn comes_to(feed: Feed, example: Example, panel: Panel, bytes: &[u8]) -> Feed {
     let section = example.section;
     match section {
@@ -97,5 +98,5 @@ fn comes_to(feed: Feed, example: Example, panel: Panel, bytes: &[u8]) -> Feed {
         b't' => temperatures::run(example, panel, bytes),
         _ => return packeted::run(example, feed, panel, bytes),
     }
-    feed
+    opened(panel)
 }
