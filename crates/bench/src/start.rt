@@ -19,20 +19,11 @@ pub fn started(marks: Marks, part: u8, prelude: &[u8]) -> Panel
 {
     let replayed = from_nothing(part, prelude);
     let panel = replayed.panel;
-    let segment = panel.segment;
-    let character = panel.character;
-    let settings = segment.control;
-    let others = character.control;
-    Panel {
-        segment: segment_knowledge::Knowledge {
-            control: less_of_segment(marks, settings),
-            ..segment
-        },
-        character: character_knowledge::Knowledge {
-            control: less_of_character(marks, others),
-            ..character
-        },
-    }
+    let mut segment = panel.segment;
+    segment.control = less_of_segment(marks, segment.control);
+    let mut character = panel.character;
+    character.control = less_of_character(marks, character.control);
+    Panel { segment, character }
 }
 
 fn less_of_segment(marks: Marks, c: Segment) -> Segment

@@ -36,7 +36,7 @@ pub fn used() -> Moved {
     }
 }
 
-// After a character that may have ended a record of this part.
+// After a byte that may have ended a record of this part.
 pub fn after(line: Line, moved: Moved) -> Moved {
     if !line.whole {
         return moved;

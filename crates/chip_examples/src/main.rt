@@ -39,10 +39,16 @@ fn run(examples: &[u8]) {
         let c = examples[i];
         i += 1;
         character(c);
-        line = line.with(word, c);
-        word = word.after(c);
-        segment = segments::after(line, segment);
-        other = characters::after(line, other);
+        if word.ends(c) {
+            if word.name == b'0' {
+                line = line.with_byte(word.byte());
+                segment = segments::after(line, segment);
+                other = characters::after(line, other);
+            }
+            word = Word::new();
+        } else {
+            word = word.with(c);
+        }
         if c == b'\n' {
             show(line.part, segment, other);
             line = Line::new();

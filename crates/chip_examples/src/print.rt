@@ -3,12 +3,6 @@ use example_text::part;
 use example_text::text;
 use libc::STDOUT_FILENO;
 
-// A name and its number.
-pub fn number(name: &[u8], n: u8) {
-    text(name);
-    io::print_decimal(STDOUT_FILENO, n as u64);
-}
-
 // An address and what stands there, in hex.
 pub fn cell(at: u64, byte: u8) {
     text(b" ");

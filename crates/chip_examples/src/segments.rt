@@ -1,6 +1,7 @@
 // PT6312 and PT6315.
 use crate::print;
 use example_text::Line;
+use example_text::number;
 use example_text::show_facts;
 use example_text::text;
 use segment::Anything;
@@ -43,7 +44,7 @@ pub fn used() -> Moved {
     }
 }
 
-// After a character that may have ended a record of one of these parts.
+// After a byte that may have ended a record of one of these parts.
 pub fn after(line: Line, moved: Moved) -> Moved {
     if !line.whole {
         return moved;
@@ -136,7 +137,7 @@ fn position(position: Position) -> u16 {
 
 fn next(family: Family, chip: Segment) {
     match segment_sends::sent_next(family, chip) {
-        Sent::Byte(byte) => print::number(b"; sends ", byte),
+        Sent::Byte(byte) => number(b"; sends ", byte as usize),
         Sent::NotDriven => text(b"; not driven"),
     }
     text(b"\n");

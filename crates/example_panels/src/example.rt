@@ -1,5 +1,6 @@
 // A line of examples: its part byte, how far its bytes go, which stand in lent memory, and what its words say.
 use crate::memory::put;
+use crate::memory::repeat;
 use example_text::Word;
 
 pub struct Example {
@@ -35,33 +36,12 @@ impl Example {
         }
     }
 
-    // Whether a word that ends says what is known: a part byte does, and so may each word behind it.
-    pub fn tells(self, word: Word, c: u8) -> bool {
-        if self.packet {
-            return false;
-        }
-        if !word.ends(c) {
-            return false;
-        }
-        self.begun || word.name == b'0'
-    }
-
-    // With one more word, which counts where it ends.
-    pub fn with(mut self, word: Word, c: u8, memory: &mut [u8]) -> Example {
-        if !word.ends(c) {
-            return self;
-        }
-        if !self.begun {
-            return self.begins(word);
-        }
-        let length = put(memory, self.mark, self.length, word);
-        self.length = length;
-        self.told(word)
-    }
-
-    // A remark, which begins with #, is one word and begins nothing.
-    fn begins(mut self, word: Word) -> Example {
+    // With one more word that ended. Before the part byte or /, a name is that of a section, and a remark, which begins with #, is one word and nothing.
+    pub fn with(mut self, word: Word, memory: &mut [u8]) -> Example {
         let name = word.name;
+        if self.begun {
+            return self.with_behind(word, memory);
+        }
         match name {
             b'0' => {
                 self.part = word.byte();
@@ -77,9 +57,11 @@ impl Example {
         self
     }
 
-    fn told(mut self, word: Word) -> Example {
+    fn with_behind(mut self, word: Word, memory: &mut [u8]) -> Example {
         let name = word.name;
         match name {
+            b'0' => self.length = put(memory, self.length, word.byte()),
+            b'*' => self.length = repeat(memory, self.mark, self.length, word.number),
             b'(' => self.mark = self.length,
             b'@' => self.start = word,
             b'$' => self.refusal = word,
@@ -89,11 +71,6 @@ impl Example {
         self
     }
 
-    // Whether a line ends that has begun: then it is run.
-    pub fn ends(self, c: u8) -> bool {
-        c == b'\n' && self.begun
-    }
-
     // Its bytes, at the front of the memory that was lent for them.
     pub fn bytes(self, memory: &[u8]) -> &[u8] {
         let length = self.length;
@@ -101,15 +78,6 @@ impl Example {
             &memory[..length]
         } else {
             memory
-        }
-    }
-
-    // At a line's end, the line behind it.
-    pub fn after(self, c: u8) -> Example {
-        if c == b'\n' {
-            Example::new(self.section, self.part)
-        } else {
-            self
         }
     }
 }

@@ -2,15 +2,16 @@
 mod characters;
 mod codes;
 mod example;
+mod facts;
 mod known;
 mod memory;
+mod panels;
 mod segments;
-mod starts;
-mod tell_characters;
-mod tell_segments;
 mod telling;
-mod tells;
 
 pub use example::Example;
+pub use facts::Told;
+pub use facts::nothing_known;
 pub use known::show_known;
+pub use panels::panel_of;
 pub use telling::told;

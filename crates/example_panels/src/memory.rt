@@ -1,25 +1,17 @@
 // A recording, which stands at the front of lent memory.
-use example_text::Word;
 
-// Puts a word behind a recording of a length and gives the new length: a byte as it is, and after * what stands from the mark on, repeated until the
-// recording has as many bytes as the word says. Where there is no room the recording stays as it is.
-pub fn put(memory: &mut [u8], mark: usize, length: usize, word: Word) -> usize {
-    if word.name == b'*' {
-        return repeat(memory, mark, length, word.number);
-    }
-    if word.name != b'0' {
-        return length;
-    }
+// Puts a byte behind a recording of a length and gives the new length. Where there is no room the recording stays as it is.
+pub fn put(memory: &mut [u8], length: usize, byte: u8) -> usize {
     if memory.len() <= length {
         return length;
     }
-    memory[length] = word.byte();
+    memory[length] = byte;
     length + 1
 }
 
 // Repeats what stands from the mark up to a place until the recording reaches the end that is asked for, and gives the place behind it. Where there is
 // nothing to repeat, or no room, the recording stays as it is.
-fn repeat(recording: &mut [u8], mark: usize, at: usize, end: usize) -> usize {
+pub fn repeat(recording: &mut [u8], mark: usize, at: usize, end: usize) -> usize {
     if at <= mark {
         return at;
     }

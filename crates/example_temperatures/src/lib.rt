@@ -6,6 +6,7 @@
 //
 // What is written is the answer, of a reading the float's four bytes, the half degrees as a whole number, and the degrees.
 use character_knowledge::Knowledge;
+use example_panels::Example;
 use example_text::character;
 use example_text::decimal;
 use example_text::number;
@@ -23,9 +24,10 @@ use thermometer::temperature;
 ghost use Rattle.half_degrees.specs.Half.{Halved};
 ghost use Rattle.temperature_line.specs.Line.{Printable};
 
-pub fn run(part: u8, panel: Panel, start: u8, bytes: &[u8]) {
+pub fn run(example: Example, panel: Panel, bytes: &[u8]) {
+    let start = (example.start.number % 256) as u8;
     let known = with_field(panel.character, start, bytes);
-    tell(temperature(part, with_character(panel, known), Address(start)));
+    tell(temperature(example.part, with_character(panel, known), Address(start)));
 }
 
 fn with_field(k: Knowledge, start: u8, bytes: &[u8]) -> Knowledge {

@@ -1,5 +1,4 @@
 // A line's bytes, one by one: the part byte, then records as paper 01 has them.
-use crate::word::Word;
 use terms::Event;
 
 pub struct Line {
@@ -31,15 +30,6 @@ impl Line {
             b2: 0,
             b3: 0,
         }
-    }
-
-    // The line with one more character and the word before it, which counts where it ends and is a byte.
-    pub fn with(mut self, word: Word, c: u8) -> Line {
-        self.whole = false;
-        if word.ends(c) && word.name == b'0' {
-            return self.with_byte(word.byte());
-        }
-        self
     }
 
     // The line with one more byte.

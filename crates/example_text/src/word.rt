@@ -26,17 +26,8 @@ impl Word {
         c == b'\n'
     }
 
-    // The word that is being read after one more character.
-    pub fn after(self, c: u8) -> Word {
-        if self.ends(c) {
-            Word::new()
-        } else {
-            self.with(c)
-        }
-    }
-
-    // A closing bracket counts for nothing.
-    fn with(self, c: u8) -> Word {
+    // The word with one more character that does not end it. A closing bracket counts for nothing.
+    pub fn with(self, c: u8) -> Word {
         match c {
             b'0'..=b'9' => self.with_digit(c - 48),
             b'A'..=b'F' => self.with_digit(c - 55),

@@ -11,42 +11,12 @@ use painting::SegmentPicture;
 use segment::Display;
 
 fn main() {
-    p14();
+    segment(b"P14, PT6312 all 00\n", 0x12, 68, 7, 0, 15);
     pt6315();
     pt6302();
-    refused();
-}
-
-// All 00, mode 7, LED 15, dimming 0, off.
-fn blank() -> SegmentPicture {
-    SegmentPicture {
-        cells: [0; 36],
-        mode: 7,
-        dimming: 0,
-        display: Display::Off,
-        led: 15,
-    }
-}
-
-// All spaces, an empty character set, no marks, lights normal.
-fn spaces() -> CharacterPicture {
-    CharacterPicture {
-        dcram: [0x20; 16],
-        cgram: [0; 40],
-        adram: [0; 16],
-        port: 0,
-        duty: 0,
-        digits: 0,
-        lights: Lights::Normal,
-    }
-}
-
-fn p14() {
-    let picture = Picture {
-        segment: blank(),
-        character: spaces(),
-    };
-    show(b"P14, PT6312 all 00\n", 0x12, picture, 68);
+    rooms();
+    segments();
+    characters();
 }
 
 // Mode and dimming at their highest, two lamps, and the first and the last cell marked.
@@ -95,83 +65,87 @@ fn pt6302() {
     show(b"PT6302\n", 0x02, picture, 174);
 }
 
-fn refused() {
-    rooms();
-    segments();
-    characters();
-}
-
 fn rooms() {
-    let good = Picture {
-        segment: blank(),
-        character: spaces(),
-    };
-    show(b"part 14\n", 0x14, good, 3);
-    show(b"room 65 on PT6312\n", 0x12, good, 65);
-    show(b"room 171 on PT6302\n", 0x02, good, 171);
+    segment(b"part 14\n", 0x14, 3, 7, 0, 15);
+    segment(b"room 65 on PT6312\n", 0x12, 65, 7, 0, 15);
+    character(b"room 171 on PT6302\n", 171, 0, 0, 0, 0, 0);
 }
 
 fn segments() {
-    show(b"mode 8 on PT6312\n", 0x12, with_segment(8, 0, 15), 3);
-    show(b"LED 16\n", 0x15, with_segment(7, 0, 16), 3);
-    show(b"dimming 8\n", 0x15, with_segment(7, 8, 15), 3);
-    modes();
-}
-
-fn modes() {
-    show(b"mode 9 on PT6315\n", 0x15, with_segment(9, 0, 15), 3);
-    show(b"room 93 on PT6315\n", 0x15, with_segment(8, 0, 15), 93);
-    show(b"mode 9 on no part\n", 0x13, with_segment(9, 0, 15), 3);
+    segment(b"mode 8 on PT6312\n", 0x12, 3, 8, 0, 15);
+    segment(b"LED 16\n", 0x15, 3, 7, 0, 16);
+    segment(b"dimming 8\n", 0x15, 3, 7, 8, 15);
+    segment(b"mode 9 on PT6315\n", 0x15, 3, 9, 0, 15);
+    segment(b"room 93 on PT6315\n", 0x15, 93, 8, 0, 15);
+    segment(b"mode 9 on no part\n", 0x13, 3, 9, 0, 15);
 }
 
 fn characters() {
-    show(b"port 4\n", 0x02, with_settings(4, 0, 0), 3);
-    show(b"duty 8\n", 0x02, with_settings(0, 8, 0), 3);
-    show(b"digits 8\n", 0x02, with_settings(0, 0, 8), 3);
-    memories();
+    character(b"port 4\n", 3, 4, 0, 0, 0, 0);
+    character(b"duty 8\n", 3, 0, 8, 0, 0, 0);
+    character(b"digits 8\n", 3, 0, 0, 8, 0, 0);
+    character(b"a pair of 4\n", 3, 0, 0, 0, 4, 0);
+    character(b"a column of 80\n", 3, 0, 0, 0, 0, 0x80);
 }
 
-fn memories() {
-    show(b"a pair of 4\n", 0x02, with_memory(4, 0), 3);
-    show(b"a column of 80\n", 0x02, with_memory(0, 0x80), 3);
-}
-
-fn with_segment(mode: u8, dimming: u8, led: u8) -> Picture {
-    Picture {
+// All cells 00, and the display off.
+fn segment(name: &[u8], part: u8, room: u8, mode: u8, dimming: u8, led: u8) {
+    let picture = Picture {
         segment: SegmentPicture {
+            cells: [0; 36],
             mode,
             dimming,
+            display: Display::Off,
             led,
-            ..blank()
         },
         character: spaces(),
-    }
+    };
+    show(name, part, picture, room);
 }
 
-fn with_settings(port: u8, duty: u8, digits: u8) -> Picture {
-    Picture {
-        segment: blank(),
-        character: CharacterPicture {
-            port,
-            duty,
-            digits,
-            ..spaces()
-        },
-    }
-}
-
-fn with_memory(pair: u8, column: u8) -> Picture {
+// All spaces, lights normal, and no mark and no column but the last of each.
+fn character(name: &[u8], room: u8, port: u8, duty: u8, digits: u8, pair: u8, column: u8) {
     let mut adram = [0u8; 16];
     adram[15] = pair;
     let mut cgram = [0u8; 40];
     cgram[39] = column;
-    Picture {
+    let character = CharacterPicture {
+        dcram: [0x20; 16],
+        cgram,
+        adram,
+        port,
+        duty,
+        digits,
+        lights: Lights::Normal,
+    };
+    let picture = Picture {
         segment: blank(),
-        character: CharacterPicture {
-            adram,
-            cgram,
-            ..spaces()
-        },
+        character,
+    };
+    show(name, 0x02, picture, room);
+}
+
+// All 00, mode 7, LED 15, dimming 0, off.
+fn blank() -> SegmentPicture {
+    SegmentPicture {
+        cells: [0; 36],
+        mode: 7,
+        dimming: 0,
+        display: Display::Off,
+        led: 15,
+    }
+}
+
+// All spaces, an empty character set, no marks, lights normal.
+fn spaces() -> CharacterPicture {
+    CharacterPicture {
+        dcram: [0x20; 16],
+        cgram: [0; 40],
+        adram: [0; 16],
+        port: 0,
+        duty: 0,
+        digits: 0,
+        lights: Lights::Normal,
     }
 }
 

@@ -15,6 +15,10 @@ mod recordings;
 mod updates;
 
 use example_panels::Example;
+use example_panels::Told;
+use example_panels::nothing_known;
+use example_panels::panel_of;
+use example_panels::told;
 use example_text::Word;
 use example_text::character;
 use feed::Feed;
@@ -27,7 +31,7 @@ use panel::Panel;
 // A byte more than is taken shows that the input is longer.
 fn main() {
     let mut buffer = io::large_buffer();
-    let mut memory = [0u8; 65600];
+    let mut memory = room();
     match read_input(&mut buffer) {
         Input::Whole(n) => run(&buffer[..n], &mut memory),
         Input::Full => {
@@ -40,55 +44,54 @@ fn main() {
     }
 }
 
-// What is kept is a value of its own, beside what was read, so that only what changes it is about it.
+// Room for the bytes of a line. A function of its own, since a proof that sees so long a row counts it.
+fn room() -> [u8; 65600] {
+    [0u8; 65600]
+}
+
+// What is told and what is kept are values of their own, beside what was read, so that only what changes them is about them.
 fn run(examples: &[u8], memory: &mut [u8]) {
     let mut word = Word::new();
     let mut example = Example::new(0, 0);
+    let mut knows = nothing_known();
     let mut feed = opened(panel::nothing_known());
     let mut i = 0;
     while i < examples.len() {
         let c = examples[i];
         i += 1;
-        feed = told(feed, example, word, c);
-        example = example.with(word, c, memory);
-        feed = ended(feed, example, c, memory);
-        example = example.after(c);
-        word = word.after(c);
+        if word.ends(c) {
+            knows = told(knows, example, word);
+            example = example.with(word, memory);
+            word = Word::new();
+        } else {
+            word = word.with(c);
+        }
+        if c == b'\n' {
+            feed = ended(feed, example, knows, memory);
+            example = Example::new(example.section, example.part);
+        }
         character(c);
     }
 }
 
-// Where a word tells, what is known is opened anew.
-fn told(feed: Feed, example: Example, word: Word, c: u8) -> Feed {
-    if example.tells(word, c) {
-        opened(example_panels::told(example, feed.panel, word))
+// A line that has begun is run where it ends.
+fn ended(feed: Feed, example: Example, knows: Told, memory: &[u8]) -> Feed {
+    if example.begun {
+        comes_to(feed, example, panel_of(knows), example.bytes(memory))
     } else {
         feed
     }
 }
 
-// A line is run where it ends.
-fn ended(feed: Feed, example: Example, c: u8, memory: &[u8]) -> Feed {
-    if example.ends(c) {
-        comes_to(feed, example, example.bytes(memory))
-    } else {
-        feed
-    }
-}
-
-fn comes_to(feed: Feed, example: Example, bytes: &[u8]) -> Feed {
+// Where no packets are taken, what was told is what a packet behind the line would start from.
+fn comes_to(feed: Feed, example: Example, panel: Panel, bytes: &[u8]) -> Feed {
     let section = example.section;
     match section {
-        b'e' => events::run(example.part, feed.panel, bytes),
-        b'r' => recordings::run(example, feed.panel, bytes),
-        b'u' => updates::run(example, feed.panel, bytes),
-        b't' => temperatures(example, feed.panel, bytes),
-        _ => return packeted::run(example, feed, bytes),
+        b'e' => events::run(example.part, panel, bytes),
+        b'r' => recordings::run(example, panel, bytes),
+        b'u' => updates::run(example, panel, bytes),
+        b't' => example_temperatures::run(example, panel, bytes),
+        _ => return packeted::run(example, feed, panel, bytes),
     }
-    feed
-}
-
-fn temperatures(example: Example, panel: Panel, bytes: &[u8]) {
-    let start = (example.start.number % 256) as u8;
-    example_temperatures::run(example.part, panel, start, bytes);
+    opened(panel)
 }

@@ -26,18 +26,14 @@ use packets::taken;
 use panel::Panel;
 use terms::Place;
 
-pub fn run(example: Example, feed: Feed, bytes: &[u8]) -> Feed {
-    let after = after(example, feed, bytes);
-    keeps(example.part, after);
-    after
-}
-
-fn after(example: Example, feed: Feed, bytes: &[u8]) -> Feed {
-    if example.packet {
+pub fn run(example: Example, feed: Feed, panel: Panel, bytes: &[u8]) -> Feed {
+    let after = if example.packet {
         takes(example.part, feed, bytes)
     } else {
-        begins(example, feed.panel, bytes)
-    }
+        begins(example, panel, bytes)
+    };
+    keeps(example.part, after);
+    after
 }
 
 fn takes(part: u8, feed: Feed, packet: &[u8]) -> Feed {

@@ -2,7 +2,7 @@
 //
 // A line is a part byte and a recording. The replay starts at place 0, knowing nothing, unless words between the bytes say otherwise.
 //     @0007   the replay starts at place 0007H
-//     known   everything is known, as `example_panels` has it
+//     known   everything is known, as `told` has it
 //     led     the LED of PT6312 and PT6315 is known as 16, which is out of range
 //     port    the port of PT6302 is known as 4, which is out of range
 // known stands before the others.

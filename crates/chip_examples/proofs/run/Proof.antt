@@ -1,7 +1,6 @@
 -- `run` meets its contract, which says nothing: the loop stays within the examples, and what is left of them falls.
 -- Assumes nothing.
 use Prim.Native.Nat.{_≤_, _-_}
-use native.Mathlib.Omega.{arith}
 use lib.ListN.{length}
 use borrow.Author.Needs.{needs}
 use Rattle.chip_examples.proofs.run.Statement.{statement}
@@ -37,8 +36,14 @@ add-i c = search needs
 character-requires : tie.Need-character-requires Inv-loop μ-loop
 character-requires c κs = search needs
 
-with-requires : tie.Need-with-requires Inv-loop μ-loop
-with-requires c κs = search needs
+ends-requires : tie.Need-ends-requires Inv-loop μ-loop
+ends-requires c κs = search needs
+
+byte-requires : tie.Need-byte-requires Inv-loop μ-loop
+byte-requires c κs = search needs
+
+with-byte-requires : tie.Need-with-byte-requires Inv-loop μ-loop
+with-byte-requires c κs = search needs
 
 after-requires : tie.Need-after-requires Inv-loop μ-loop
 after-requires c κs = search needs
@@ -46,14 +51,17 @@ after-requires c κs = search needs
 after-requires-2 : tie.Need-after-requires-2 Inv-loop μ-loop
 after-requires-2 c κs = search needs
 
-after-requires-3 : tie.Need-after-requires-3 Inv-loop μ-loop
-after-requires-3 c κs = search needs
+new-requires-3 : tie.Need-new-requires-3 Inv-loop μ-loop
+new-requires-3 c κs = search needs
+
+with-requires : tie.Need-with-requires Inv-loop μ-loop
+with-requires c κs = search needs
 
 show-requires : tie.Need-show-requires Inv-loop μ-loop
 show-requires c κs = search needs
 
-new-requires-3 : tie.Need-new-requires-3 Inv-loop μ-loop
-new-requires-3 c κs = search needs
+new-requires-4 : tie.Need-new-requires-4 Inv-loop μ-loop
+new-requires-4 c κs = search needs
 
 used-requires-3 : tie.Need-used-requires-3 Inv-loop μ-loop
 used-requires-3 c κs = search needs
@@ -62,16 +70,16 @@ used-requires-4 : tie.Need-used-requires-4 Inv-loop μ-loop
 used-requires-4 c κs = search needs
 
 loop-less : tie.Need-loop-less Inv-loop μ-loop
-loop-less c = omega (arith, c .before .before .before .before .before .before .before .before .before .before .before .loop-test .taken)
+loop-less c = search needs
 
 loop-again : tie.Need-loop-again Inv-loop μ-loop
-loop-again c = omega (arith, c .before .before .before .before .before .before .before .before .before .before .before .loop-test .taken)
+loop-again c = search needs
 
 loop-less-2 : tie.Need-loop-less-2 Inv-loop μ-loop
-loop-less-2 c = omega (arith, c .before .before .before .before .before .before .before .loop-test .taken)
+loop-less-2 c = search needs
 
 loop-again-2 : tie.Need-loop-again-2 Inv-loop μ-loop
-loop-again-2 c = omega (arith, c .before .before .before .before .before .before .before .loop-test .taken)
+loop-again-2 c = search needs
 
 returns : tie.Need-returns Inv-loop μ-loop
 returns c = search needs
@@ -90,12 +98,15 @@ run-spec =
     shared-slice-read-c
     add-i
     character-requires
-    with-requires
+    ends-requires
+    byte-requires
+    with-byte-requires
     after-requires
     after-requires-2
-    after-requires-3
-    show-requires
     new-requires-3
+    with-requires
+    show-requires
+    new-requires-4
     used-requires-3
     used-requires-4
     loop-less

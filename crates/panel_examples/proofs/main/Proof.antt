@@ -7,6 +7,9 @@ use Rattle.panel_examples.proofs.main.Tie as tie
 large-buffer-requires : tie.Need-large-buffer-requires
 large-buffer-requires c κs = search needs
 
+room-requires : tie.Need-room-requires
+room-requires c κs = search needs
+
 slice-aggregate-read-input : tie.Need-slice-aggregate-read-input
 slice-aggregate-read-input c = search needs
 
@@ -60,6 +63,7 @@ main-spec =
     tie.close
     (tie.spec
     large-buffer-requires
+    room-requires
     slice-aggregate-read-input
     read-input-requires
     enum-known-n

@@ -2,17 +2,18 @@
 -- Assumes nothing.
 use Prim.Native.Nat.{_≤_, _-_}
 use native.Mathlib.Omega.{arith}
-use mathlib.Core.Path.{_≡_}
+use mathlib.Core.Path.{_≡_, ap}
+use mathlib.Core.Logic.{⊎-elim}
 use lib.ListN.{length}
 use borrow.Author.Needs.{needs}
 use Rattle.panel_examples.proofs.run.Statement.{statement}
 use Rattle.panel_examples.proofs.run.Tie as tie
 
 abbrev Inv-loop : tie.InvT-loop
-Inv-loop examples memory₀ word₀ example₀ feed₀ i₀ memory word example feed i = (i ≤ length examples) × (length memory ≡ length memory₀)
+Inv-loop examples memory₀ word₀ example₀ knows₀ feed₀ i₀ memory word example knows feed i = (i ≤ length examples) × (length memory ≡ length memory₀)
 
 abbrev μ-loop : tie.MeasureT-loop
-μ-loop examples memory₀ word₀ example₀ feed₀ i₀ memory word example feed i = length examples - i
+μ-loop examples memory₀ word₀ example₀ knows₀ feed₀ i₀ memory word example knows feed i = length examples - i
 
 new-requires : tie.Need-new-requires Inv-loop μ-loop
 new-requires c κs = search needs
@@ -22,6 +23,9 @@ new-requires-2 c κs = search needs
 
 nothing-known-requires : tie.Need-nothing-known-requires Inv-loop μ-loop
 nothing-known-requires c κs = search needs
+
+nothing-known-requires-2 : tie.Need-nothing-known-requires-2 Inv-loop μ-loop
+nothing-known-requires-2 c κs = search needs
 
 opened-requires : tie.Need-opened-requires Inv-loop μ-loop
 opened-requires c κs = search needs
@@ -35,20 +39,26 @@ shared-slice-read-c c = search needs
 add-i : tie.Need-add-i Inv-loop μ-loop
 add-i c = search needs
 
+ends-requires : tie.Need-ends-requires Inv-loop μ-loop
+ends-requires c κs = search needs
+
 told-requires : tie.Need-told-requires Inv-loop μ-loop
 told-requires c κs = search needs
 
 with-requires : tie.Need-with-requires Inv-loop μ-loop
 with-requires c κs = search needs
 
+new-requires-3 : tie.Need-new-requires-3 Inv-loop μ-loop
+new-requires-3 c κs = search needs
+
+with-requires-2 : tie.Need-with-requires-2 Inv-loop μ-loop
+with-requires-2 c κs = search needs
+
 ended-requires : tie.Need-ended-requires Inv-loop μ-loop
 ended-requires c κs = search needs
 
-after-requires : tie.Need-after-requires Inv-loop μ-loop
-after-requires c κs = search needs
-
-after-requires-2 : tie.Need-after-requires-2 Inv-loop μ-loop
-after-requires-2 c κs = search needs
+new-requires-4 : tie.Need-new-requires-4 Inv-loop μ-loop
+new-requires-4 c κs = search needs
 
 character-requires : tie.Need-character-requires Inv-loop μ-loop
 character-requires c κs = search needs
@@ -58,9 +68,12 @@ loop-less c = search needs
 
 loop-again : tie.Need-loop-again Inv-loop μ-loop
 loop-again c =
-    let lent = c .before .before .before .before .before .before in
-    let inside = lent .before .before .before .before .before in
-    (omega (arith, inside .loop-test .taken), omega (arith, lent .memory .given, inside .before .loop .inv))
+    let joined = c .before .before in
+    let inside = joined .before .before .before in
+    let inv = inside .before .loop .inv in (
+      omega (arith, inside .loop-test .taken),
+      ⊎-elim (λ w. omega (arith, ap length (w .7), w .4 .given, inv)) (λ w. omega (arith, ap length (w .2), inv)) (joined .if1 .came),
+    )
 
 same-length : tie.Need-same-length Inv-loop μ-loop
 same-length c = search needs
@@ -77,15 +90,18 @@ run-spec =
     new-requires
     new-requires-2
     nothing-known-requires
+    nothing-known-requires-2
     opened-requires
     loop-holds
     shared-slice-read-c
     add-i
+    ends-requires
     told-requires
     with-requires
+    new-requires-3
+    with-requires-2
     ended-requires
-    after-requires
-    after-requires-2
+    new-requires-4
     character-requires
     loop-less
     loop-again

@@ -14,13 +14,12 @@ less-of-character-requires c κs = search needs
 
 returns : tie.Need-returns
 returns c =
-    let character = c .before .before .before in
-    let segment = character .before .before in
-    let replayed = segment .before .before .before .before .before .before in
+    let segment = c .before .before in
+    let replayed = segment .before .before .before in
     record {
       before = replayed .from-nothing .result;
       replays = replayed .from-nothing .ensures;
-      starts = rw (segment .less-of-segment .ensures, character .less-of-character .ensures);
+      starts = rw (segment .less-of-segment .ensures, c .less-of-character .ensures);
     }
 
 pub started-spec : {M : Type 1} → statement M
