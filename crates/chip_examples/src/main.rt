@@ -1,6 +1,7 @@
 // Runs the examples of the file stdin: a line is a part byte and a recording, in hex. Each line is written back with the chip that it
-// ends in, and compared with the file stdout, whose values are from paper 01, and of the ring of cells from paper 02 (M-101).
+// ends in. Behind them pictures are painted. It is compared with the file stdout, whose values are from paper 01, and of the ring of cells from paper 02 (M-101).
 mod characters;
+mod paintings;
 mod print;
 mod segments;
 
@@ -17,7 +18,10 @@ use segment::Family;
 fn main() {
     let mut buffer = io::large_buffer();
     match read_input(&mut buffer) {
-        Input::Whole(n) => run(&buffer[..n]),
+        Input::Whole(n) => {
+            run(&buffer[..n]);
+            paintings::run();
+        }
         Input::Full => {
             io::write_all(
                 STDERR_FILENO,

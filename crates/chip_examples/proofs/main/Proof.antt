@@ -25,6 +25,9 @@ slice-aggregate-run c = whole-long (c .before .before .before .before .before .r
 run-requires : tie.Need-run-requires
 run-requires c κs = search needs
 
+run-requires-2 : tie.Need-run-requires-2
+run-requires-2 c κs = search needs
+
 enum-told : tie.Need-enum-told
 enum-told c = search needs
 
@@ -63,6 +66,7 @@ main-spec =
     array-share-prefix-buffer
     slice-aggregate-run
     run-requires
+    run-requires-2
     enum-told
     slice-aggregate-write-all
     write-all-requires

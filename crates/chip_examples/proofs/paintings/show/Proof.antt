@@ -1,10 +1,10 @@
--- `show` meets its contract, which says nothing: the part that is lent is as long as the room asked for, which a byte keeps within the buffer.
+-- `paintings::show` meets its contract, which says nothing: the part that is lent is as long as the room asked for, which a byte keeps within the buffer.
 -- Assumes nothing.
 use native.Mathlib.Omega.{arith}
 use lib.ListN.{length-take}
 use borrow.Author.Needs.{needs}
-use Rattle.paint_examples.proofs.show.Statement.{statement}
-use Rattle.paint_examples.proofs.show.Tie as tie
+use Rattle.chip_examples.proofs.paintings.show.Statement.{statement}
+use Rattle.chip_examples.proofs.paintings.show.Tie as tie
 
 text-requires : tie.Need-text-requires
 text-requires c κs = search needs

@@ -1,5 +1,4 @@
-// Examples of painting: each prints its answer and the whole output, which held EE before, and is compared with the file stdout, whose
-// values are from paper 01.
+// Pictures, painted. Of each the answer is written, and the whole output, which held EE before.
 use character::Lights;
 use example_text::bytes;
 use example_text::number;
@@ -10,7 +9,7 @@ use painting::Picture;
 use painting::SegmentPicture;
 use segment::Display;
 
-fn main() {
+pub fn run() {
     segment(b"P14, PT6312 all 00\n", 0x12, 68, 7, 0, 15);
     pt6315();
     pt6302();
