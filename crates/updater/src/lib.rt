@@ -1,7 +1,6 @@
 // The update: a part byte, what is known, the wanted cells and a lent output become the recording that brings the panel to these cells, and what is known when
 // it has gone out.
 use panel::Panel;
-use panel::with_segment;
 use segment::Family;
 use segment_ranges::sound;
 use segment_refreshed::refreshed;
@@ -47,7 +46,7 @@ pub fn refresh(part: u8, panel: Panel, wanted: [u8; 36], out: &mut [u8]) -> Refr
     }
 }
 
-fn refresh_segment(family: Family, panel: Panel, wanted: [u8; 36], out: &mut [u8]) -> Refreshed
+fn refresh_segment(family: Family, mut panel: Panel, wanted: [u8; 36], out: &mut [u8]) -> Refreshed
     ensures { λ r. ⌜ RefreshesSegment family panel wanted (now (out .entry)) r (now (out .exit)) ⌝ }
 {
     let known = panel.segment;
@@ -67,7 +66,7 @@ fn refresh_segment(family: Family, panel: Panel, wanted: [u8; 36], out: &mut [u8
         Behind::NothingSent => Refreshed { answer, panel },
         Behind::Cell(cell) => {
             let then = refreshed(family, known, set, wanted, cell);
-            let panel = with_segment(panel, then);
+            panel.segment = then;
             Refreshed { answer, panel }
         }
     }

@@ -10,7 +10,6 @@ use Rattle.rules.specs.Where.{good, bad}
 use Rattle.segment.specs.declared.chip.Sizes.{Sizes}
 use Rattle.segment.specs.Family.{sizes}
 use Rattle.segment.specs.Laws.{room, some-cells}
-use Rattle.segment_knowledge.specs.declared.knowledge.Knowledge.{Knowledge}
 use Rattle.segment_knowledge.specs.View.{held, kview}
 use Rattle.updating.specs.Update.{isSet}
 use Rattle.updater.specs.ByFamily.{by-family, named-sent, named-learns, unnamed-learns}
@@ -65,9 +64,6 @@ refreshed-requires c κs =
     let t : c .before .before .before .before .before .before .before .before .before .before .is-set .result ≡ isSet (kview (a .panel .segment)) = c .before .before .before .before .before .before .before .before .before .before .is-set .ensures (held (a .panel .segment .cells)) in
     named-sent (a .family) (a .panel) (a .t3) _ n (c .before .before .before .before .before .send .result) (c .before .before .before .before .before .send .ensures .1) _ _ t (c .before .behind .given .1)
 
-with-segment-requires : tie.Need-with-segment-requires
-with-segment-requires c κs = search needs
-
 same-length : tie.Need-same-length
 same-length c = search needs
 
@@ -87,14 +83,14 @@ same-length-2 c = search needs
 
 returns-3 : tie.Need-returns-3
 returns-3 c =
-    let a = c .before .before .before .before .before .before .before .before .before .before .before .before .before .before .before .before .before .before .before .args in
-    let s = c .before .before .before .before .before .before .before .send in
-    let n : c .before .before .before .before .before .before .before .before .before .before .before .before .before .before .sizes .result .cells ≡ sizes (a .family) .cells = ap (λ (z : Sizes). z .cells) (c .before .before .before .before .before .before .before .before .before .before .before .before .before .before .sizes .ensures) in
-    let t : c .before .before .before .before .before .before .before .before .before .before .before .before .is-set .result ≡ isSet (kview (a .panel .segment)) = c .before .before .before .before .before .before .before .before .before .before .before .before .is-set .ensures (held (a .panel .segment .cells)) in
-    let sound = c .before .before .before .before .before .before .before .before .before .before .before .before .before .before .before .before .sound .ensures .so (not-false _ (c .before .before .before .before .before .before .before .before .before .before .before .before .before .before .before .if1 .left)) in (
+    let a = c .before .before .before .before .before .before .before .before .before .before .before .before .before .before .before .before .before .before .args in
+    let s = c .before .before .before .before .before .before .send in
+    let n : c .before .before .before .before .before .before .before .before .before .before .before .before .before .sizes .result .cells ≡ sizes (a .family) .cells = ap (λ (z : Sizes). z .cells) (c .before .before .before .before .before .before .before .before .before .before .before .before .before .sizes .ensures) in
+    let t : c .before .before .before .before .before .before .before .before .before .before .before .is-set .result ≡ isSet (kview (a .panel .segment)) = c .before .before .before .before .before .before .before .before .before .before .before .is-set .ensures (held (a .panel .segment .cells)) in
+    let sound = c .before .before .before .before .before .before .before .before .before .before .before .before .before .before .before .sound .ensures .so (not-false _ (c .before .before .before .before .before .before .before .before .before .before .before .before .before .before .if1 .left)) in (
       good sound (by-family (a .family) (a .panel .segment) (a .t3) (a .out .now) _ _ _ _ n t (s .ensures .0)),
-      named-learns (a .family) (a .panel) (a .t3) _ n (s .result) (s .ensures .1) _ (c .with-segment .result) (c .before .before .before .behind .given .1)
-          (λ f. ap (λ (x : Knowledge). kview x f) (c .with-segment .ensures .0) ∙ c .before .refreshed .ensures f, c .with-segment .ensures .1),
+      named-learns (a .family) (a .panel) (a .t3) _ n (s .result) (s .ensures .1) _ (record { segment = c .refreshed .result; character = a .panel .character }) (c .before .before .behind .given .1)
+          (λ f. c .refreshed .ensures f, refl),
     )
 
 pub refresh-segment-spec : {M : Type 1} → statement M
@@ -112,7 +108,6 @@ refresh-segment-spec =
     enum-told
     enum-known-behind
     refreshed-requires
-    with-segment-requires
     same-length
     returns-2
     same-length-2
