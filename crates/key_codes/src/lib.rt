@@ -1,30 +1,10 @@
 // Key bytes in a row, each known or unknown as a whole: the code 256 is unknown, and any other code is known to be that number.
-ghost use mathlib.Core.Path.{_≡_};
 ghost use Prim.Native.Nat.{_≤_};
 ghost use lib.ListN.{length};
 ghost use Rattle.rules.specs.Tests.{Tests};
 ghost use Rattle.knowing.specs.Standing.{Within};
 ghost use Rattle.key_codes.specs.View.{coded};
-ghost use Rattle.key_codes.specs.Codes.{bothCodes, Joined, RowSound, Small};
-
-// What two codes have in common.
-fn both_codes(a: u16, b: u16) -> u16
-    ensures { λ r. ⌜ r ≡ bothCodes a b ⌝ }
-{
-    if a == b { a } else { 256 }
-}
-
-// The first `count` codes become what both rows have in common.
-pub fn join_first(a: &mut [u16], b: &[u16], count: usize)
-    requires { ⌜ (count ≤ length (now a)) × (count ≤ length (now b)) ⌝ }
-    ensures { λ r. ⌜ Joined (now (a .entry)) (now (b .entry)) count (now (a .exit)) ⌝ }
-{
-    let mut i = 0;
-    while i < count {
-        a[i] = both_codes(a[i], b[i]);
-        i += 1;
-    }
-}
+ghost use Rattle.key_codes.specs.Codes.{RowSound, Small};
 
 fn code_within(code: u16, limit: u16) -> bool
     ensures { λ r. ⌜ Tests r (Within limit (coded code)) ⌝ }

@@ -1,25 +1,71 @@
--- A byte in at an unknown position: a step for each of its four ways, joined one after the other, where the two that do nothing count as one.
-use Prim.Native.Nat.{ℕ}
+-- A byte in at an unknown position: it may have been a command, or data, or nothing. The argument: the two ways that do nothing, idle and ignoring, have in common what was known, so that what is left
+-- of each fact is what it has in common with what the data and the command make of it.
+use Prim.Native.Nat.{ℕ, _≤_}
 use native.Mathlib.Omega.{arith}
-use mathlib.Core.Path.{_≡_, refl, sym, ap, ap₂, _∙_}
+use mathlib.Core.Path.{_≡_, refl, sym, ap, ap₂, _∙_, subst⁻¹}
 use Rattle.rules.specs.Rule.{look}
-use Rattle.knowing.specs.Standing.{Standing, known, unknown}
+use Rattle.knowing.specs.Standing as Of
+use Rattle.knowing.specs.Standing.{known, unknown}
 use Rattle.knowing.specs.Know.{learn, join, common, know}
-use Rattle.knowing.specs.Join.{join-other, join-itself, join-late}
-use Rattle.knowing.specs.Steps as Of
+use Rattle.knowing.specs.Join.{join-other, join-itself, join-late, join-not, join-nor}
+use Rattle.knowing.specs.Look.{know-same}
+use Rattle.knowing.specs.Steps.{step-all}
 use Rattle.standing.specs.View.{stands}
-use Rattle.changes.specs.Change.{Plain}
-use Rattle.segment.specs.declared.chip.Sizes.{Sizes}
-use Rattle.segment.specs.Fact.{Fact, same?, range, position}
-use Rattle.segment.specs.Move.{byteIn}
+use Rattle.standing.specs.declared.standing.Standing.{Standing}
+use Rattle.standing.specs.declared.standing.Standing.the-variants.{Known, Unknown}
+use Rattle.lamps.specs.View.{shown}
+use Rattle.lamps.specs.Lamp.{none-shown}
+use Rattle.changes.specs.declared.change.Change.{Change}
+use Rattle.changes.specs.declared.change.Change.the-variants.{Forget}
+use Rattle.changes.specs.Change.{seen, Inside, loose}
+use Rattle.changes.specs.Together.{loose-seen, loose-inside}
+use Rattle.segment.specs.declared.chip.Family.{Family}
+use Rattle.segment.specs.declared.chip.Data.{Data}
+use Rattle.segment.specs.declared.chip.Display.{Display}
+use Rattle.segment.specs.declared.chip.Pointer.{Pointer}
+use Rattle.segment.specs.declared.chip.Stepping.{Stepping}
+use Rattle.segment.specs.declared.command.Command.{Command}
+use Rattle.segment.specs.declared.command.Command.the-variants.{Mode, Test, Setting, AnySetting, Control as Controls, Start}
+use Rattle.segment.specs.Command.{commandOf}
+use Rattle.segment.specs.Family.{sizes}
+use Rattle.segment.specs.Fact.{Fact, same?, range, cell, address, dataMode, stepping, mode, dimming, display, led, key, switches, readCount, position}
+use Rattle.segment.specs.Laws.{every, led-tested}
+use Rattle.segment.specs.Value.{pointer, data-mode, steps, shows}
+use Rattle.segment.specs.Move.{written, toMode, commanded, byteIn}
 use Rattle.segment_knowledge.specs.declared.control.Control.{Control}
-use Rattle.segment_knowledge.specs.View.{cview}
+use Rattle.segment_knowledge.specs.declared.control.Pointing.{Pointing}
+use Rattle.segment_knowledge.specs.declared.control.Pointing.the-variants.{Unknown as Anywhere}
+use Rattle.segment_knowledge.specs.View.{points, cview}
 use Rattle.segment_steps.specs.declared.steps.Step.{Step}
-use Rattle.segment_steps.specs.Step.{sview, StaysInside, Steps, keptOf, Both}
-use Rattle.segment_steps.specs.StepLaws.{both-joins, both-inside, kept-with, plain-first}
+use Rattle.segment_steps.specs.Step.{sview, StaysInside, Steps}
+use Rattle.segment_known.specs.declared.bytes.Written.{Written}
+use Rattle.segment_known.specs.Ways.{displayIn, inMode, mode-set, mode-small, top-room}
+use Rattle.segment_known.specs.Writes.{writing, placed, Writes}
+
+-- What the command m makes of c, as a first byte.
+abbrev pub commandedAs : Family → Command → Control → (ℕ → ℕ → Of.Standing) → Fact → Of.Standing
+commandedAs p m c cells = know same? (range (sizes p)) (commanded m) (learn same? position 1 (cview cells c))
+
+-- That of a mode command.
+pub moded-as : (p : Family) (c : Control) (m : ℕ) (shown : Standing) → m ≤ sizes p .top → stands shown ≡ displayIn (stands (c .mode)) m (stands (c .display))
+    → (cells : ℕ → ℕ → Of.Standing) (f : Fact) → cview cells (inMode c m shown) f ≡ commandedAs p (Mode m) c cells f
+moded-as p c m shown small e cells f =
+    mode-set (sizes p) (placed c (Known 1)) m shown small (top-room p) e cells f
+    ∙ know-same same? (range (sizes p)) (look mode (toMode m)) (cview cells (placed c (Known 1))) (learn same? position 1 (cview cells c))
+    (every _ (λ i k. refl) refl refl refl refl refl refl (λ k. refl) (λ i. refl) refl refl refl) f
+
+-- Of three ways two are one: what is left is what it has in common with the other.
+again : (t s w : Of.Standing) → t ≡ join s w → t ≡ join (join s w) s
+again t s w e = e ∙ sym (join-late s w s ∙ ap (λ (x : Of.Standing). join x w) (join-itself s))
+
+twice : (t s w : Of.Standing) → t ≡ join s w → t ≡ join (join s s) w
+twice t s w e = e ∙ ap (λ (x : Of.Standing). join x w) (sym (join-itself s))
+
+thrice : (s : Of.Standing) → s ≡ join (join s s) s
+thrice s = again s s s (sym (join-itself s))
 
 -- Idle and ignoring leave every fact as it is, and so have in common all that is known beside the position.
-idle-or-ignoring : (cells : ℕ → ℕ → Standing) (c : Control) → stands (c .position) ≡ unknown
+idle-or-ignoring : (cells : ℕ → ℕ → Of.Standing) (c : Control) → stands (c .position) ≡ unknown
     → (x : Fact) → cview cells c x ≡ join (learn same? position 0 (cview cells c) x) (learn same? position 3 (cview cells c) x)
 idle-or-ignoring cells c u x = go (same? x position)
   where
@@ -30,29 +76,112 @@ idle-or-ignoring cells c u x = go (same? x position)
     go (yes e) = ap (cview cells c) e ∙ u ∙ join-other (known 0) (known 3) 0 3 refl refl other
     go (no n) = sym (join-itself (cview cells c x))
 
--- The last of four ways may come second.
-second-last : (a b p q : Standing) → join (join (join a b) p) q ≡ join (join (join a p) q) b
-second-last a b p q = ap (λ (s : Standing). join s q) (join-late a b p) ∙ join-late (join a p) b q
+-- Of four ways, the last two of which are the third and the second, the second may come last.
+in-order : (a b p q : Of.Standing) → join (join (join a b) q) p ≡ join (join (join a p) q) b
+in-order a b p q = join-late (join a b) q p ∙ ap (λ (s : Of.Standing). join s q) (join-late a b p) ∙ join-late (join a p) b q
 
-module _ (s : Sizes) (b : ℕ) (c : Control) where
-  abbrev pub Goes : ℕ → Step → Type 0
-  Goes = Of.Goes cview sview StaysInside same? (range s) position (byteIn s b) c
+-- c with these facts and another position or not; keys and switches stay.
+abbrev pub made : Control → Change → Pointing → ℕ → Standing → Standing → Standing → Standing → Standing → Standing → Step
+made c x a l d i m o v n = record {
+  control = record {
+    address = a;
+    «data» = d;
+    stepping = i;
+    mode = m;
+    dimming = o;
+    display = v;
+    led = l;
+    keys = c .keys;
+    switches = c .switches;
+    count = n;
+    position = c .position;
+  };
+  change = x;
+}
 
-  pub goes : (v : ℕ) (l : Control) {r : Step} → Of.Learnt cview sview StaysInside same? (range s) position v c l → Steps s (byteIn s b v) l r → Goes v r
-  goes v l = Of.goes cview sview StaysInside same? (range s) position (byteIn s b) c v l
+-- `next` is what data make of c, and x, a and l are what is left of the cells, the address and the LED where they may have come.
+module _ (p : Family) (b : ℕ) (c : Control) (u : stands (c .position) ≡ unknown) (next : Written) (data-in : Writes (sizes p) b c next) where
+  abbrev pub Perhaps : Step → Type 0
+  Perhaps = Steps (sizes p) (look position (byteIn (sizes p) b)) c
 
-  -- The first byte, and a data byte, behind the two ways that do nothing; k is the step of those, and v what it has in common with the first byte.
-  pub four-ways : {k f o v r : Step} → stands (c .position) ≡ unknown → k ≡ keptOf c → Goes 1 f → Goes 2 o → Plain (f .change) → Both k f v → Both v o r → Steps s (look position (byteIn s b)) c r
-  unfolding common
-  four-ways {k} {f} {o} {v} {r} u e wf wo pf bv br =
-      Of.step-all cview sview StaysInside same? (range s) position (byteIn s b) c 4 refl (λ cells. u) (record {
-        gathers = λ cells y. gathered cells y;
-        inside = both-inside br (both-inside bv (rw e tt) (wf .inside)) (wo .inside);
-      })
-    where
-      gathered : (cells : ℕ → ℕ → Standing) (y : Fact) → sview cells r y ≡ common 4 (λ n. know same? (range s) (byteIn s b n) (learn same? position n (cview cells c)) y)
-      gathered cells y =
-          both-joins (plain-first e pf bv) br cells y
-          ∙ ap₂ join (both-joins (kept-with e) bv cells y
-          ∙ ap₂ join (ap (λ (x : Step). sview cells x y) e ∙ idle-or-ignoring cells c u y) (wf .ways cells y)) (wo .ways cells y)
-          ∙ second-last _ _ _ _
+  opened : Step
+  opened = record { control = writing (placed c (Known 2)) (next .address) (next .led); change = next .change }
+
+  module _ (m : Command) (way : (ℕ → ℕ → Of.Standing) → Fact → Of.Standing) (is : m ≡ commandOf (sizes p) b) (goes : (cells : ℕ → ℕ → Of.Standing) (f : Fact) → way cells f ≡ commandedAs p m c cells f) where
+    perhaps-steps : (r : Step) → Inside 36 (r .change) → ((cells : ℕ → ℕ → Of.Standing) (f : Fact) → sview cells r f ≡ join (join (cview cells c f) (sview cells opened f)) (way cells f)) → Perhaps r
+    unfolding common opened
+    perhaps-steps r inside joins =
+        step-all cview sview StaysInside same? (range (sizes p)) position (byteIn (sizes p) b) c 4 refl (λ cells. u) (record { gathers = gathered; inside = inside })
+      where
+        second : (cells : ℕ → ℕ → Of.Standing) (f : Fact) → sview cells opened f ≡ know same? (range (sizes p)) (byteIn (sizes p) b 2) (learn same? position 2 (cview cells c)) f
+        second cells f =
+            data-in (Known 2) .knows cells f
+            ∙ know-same same? (range (sizes p)) (look dataMode (written (sizes p) b)) (cview cells (placed c (Known 2))) (learn same? position 2 (cview cells c))
+            (every _ (λ i k. refl) refl refl refl refl refl refl (λ k. refl) (λ i. refl) refl refl refl) f
+
+        gathered : (cells : ℕ → ℕ → Of.Standing) (y : Fact) → sview cells r y ≡ common 4 (λ n. know same? (range (sizes p)) (byteIn (sizes p) b n) (learn same? position n (cview cells c)) y)
+        gathered cells y =
+            joins cells y
+            ∙ ap₂ join (ap₂ join (idle-or-ignoring cells c u y) (second cells y)) (goes cells y ∙ ap (λ (n : Command). commandedAs p n c cells y) is)
+            ∙ in-order _ _ _ _
+
+  lost : (w : Of.Standing) → stands (c .position) ≡ join (join (stands (c .position)) (known 2)) w
+  lost w = u ∙ join-not _ _ (sym (join-not _ _ u))
+
+  -- Test mode forgets all but keys and switches.
+  pub perhaps-test : Test ≡ commandOf (sizes p) b → Perhaps (made c Forget Anywhere 0 Unknown Unknown Unknown Unknown Unknown Unknown)
+  unfolding opened
+  perhaps-test is =
+      perhaps-steps Test (commandedAs p Test c) is (λ cells f. refl) _ tt
+      (λ cells. every _ (λ i k. join-nor _ _ refl) (join-nor _ _ refl) (join-nor _ _ refl) (join-nor _ _ refl) (join-nor _ _ refl) (join-nor _ _ refl) (join-nor _ _ refl)
+      (λ k. rw (led-tested k) (none-shown 4 k ∙ join-nor _ _ refl)) (λ i. thrice _) (thrice _) (join-nor _ _ refl) (lost _))
+
+  module _ (x : Change) (a : Pointing) (l : ℕ) (met : x ≡ loose (next .change)) (at : points a ≡ join (points (c .address)) (points (next .address)))
+      (lit : (k : ℕ) → shown 4 l k ≡ join (shown 4 (c .led) k) (shown 4 (next .led) k)) where
+    inside : Inside 36 x
+    inside = subst⁻¹ (λ (y : Change). Inside 36 y) met (loose-inside 36 (next .change) (data-in (Known 2) .inside))
+
+    cells-left : (cells : ℕ → ℕ → Of.Standing) (i k : ℕ) → seen 8 x i k (cells i k) ≡ join (join (cells i k) (seen 8 (next .change) i k (cells i k))) (cells i k)
+    cells-left cells i k = again _ _ _ (ap (λ (y : Change). seen 8 y i k (cells i k)) met ∙ loose-seen 8 (next .change) i k (cells i k))
+
+    -- An address that may have been set.
+    pub perhaps-start : (to : Pointer) (start : Pointing) → Start to ≡ commandOf (sizes p) b → points start ≡ join (points a) (known (pointer to))
+        → Perhaps (made c x start l (c .«data») (c .stepping) (c .mode) (c .dimming) (c .display) (c .count))
+    unfolding opened
+    perhaps-start to start is e =
+        perhaps-steps (Start to) (commandedAs p (Start to) c) is (λ cells f. refl) _ inside
+        (λ cells. every _ (cells-left cells) (e ∙ ap (λ (s : Of.Standing). join s (known (pointer to))) at) (thrice _) (thrice _) (thrice _) (thrice _) (thrice _) (λ k. again _ _ _ (lit k)) (λ i. thrice _) (thrice _) (thrice _) (lost _))
+
+    -- A data setting, with any data mode or with one.
+    pub perhaps-setting : (d : Data) (i : Stepping) (new step count : Standing) → Setting d i ≡ commandOf (sizes p) b → stands new ≡ join (stands (c .«data»)) (known (data-mode d))
+        → stands step ≡ join (stands (c .stepping)) (known (steps i)) → stands count ≡ join (stands (c .count)) (known 0) → Perhaps (made c x a l new step (c .mode) (c .dimming) (c .display) count)
+    unfolding opened
+    perhaps-setting d i new step count is e f g =
+        perhaps-steps (Setting d i) (commandedAs p (Setting d i) c) is (λ cells f. refl) _ inside
+        (λ cells. every _ (cells-left cells) (again _ _ _ at) (twice _ _ _ e) (twice _ _ _ f) (thrice _) (thrice _) (thrice _) (λ k. again _ _ _ (lit k)) (λ i. thrice _) (thrice _) (twice _ _ _ g) (lost _))
+
+    pub perhaps-any : (i : Stepping) (step count : Standing) → AnySetting i ≡ commandOf (sizes p) b → stands step ≡ join (stands (c .stepping)) (known (steps i)) → stands count ≡ join (stands (c .count)) (known 0)
+        → Perhaps (made c x a l Unknown step (c .mode) (c .dimming) (c .display) count)
+    unfolding opened
+    perhaps-any i step count is f g =
+        perhaps-steps (AnySetting i) (commandedAs p (AnySetting i) c) is (λ cells f. refl) _ inside
+        (λ cells. every _ (cells-left cells) (again _ _ _ at) (join-nor _ _ refl) (twice _ _ _ f) (thrice _) (thrice _) (thrice _) (λ k. again _ _ _ (lit k)) (λ i. thrice _) (thrice _) (twice _ _ _ g) (lost _))
+
+    pub perhaps-control : (n : ℕ) (o : Display) (dim shows' : Standing) → Controls n o ≡ commandOf (sizes p) b → stands dim ≡ join (stands (c .dimming)) (known n)
+        → stands shows' ≡ join (stands (c .display)) (known (shows o)) → Perhaps (made c x a l (c .«data») (c .stepping) (c .mode) dim shows' (c .count))
+    unfolding opened
+    perhaps-control n o dim shows' is e f =
+        perhaps-steps (Controls n o) (commandedAs p (Controls n o) c) is (λ cells f. refl) _ inside
+        (λ cells. every _ (cells-left cells) (again _ _ _ at) (thrice _) (thrice _) (thrice _) (twice _ _ _ e) (twice _ _ _ f) (λ k. again _ _ _ (lit k)) (λ i. thrice _) (thrice _) (thrice _) (lost _))
+
+    pub perhaps-mode : (n : ℕ) (off new shows' : Standing) → Mode n ≡ commandOf (sizes p) b → stands off ≡ displayIn (stands (c .mode)) n (stands (c .display)) → stands new ≡ join (stands (c .mode)) (known n)
+        → stands shows' ≡ join (stands (c .display)) (stands off) → Perhaps (made c x a l (c .«data») (c .stepping) new (c .dimming) shows' (c .count))
+    unfolding opened
+    perhaps-mode n off new shows' is h e f =
+        perhaps-steps (Mode n) (λ cells. cview cells (inMode c n off)) is (moded-as p c n off (mode-small (sizes p) b n is) h) _ inside
+        (λ cells. every _ (cells-left cells) (again _ _ _ at) (thrice _) (thrice _) (twice _ _ _ e) (thrice _) (twice _ _ _ f) (λ k. again _ _ _ (lit k)) (λ i. thrice _) (thrice _) (thrice _) (lost _))
+
+-- Said of the facts in other words.
+pub perhaps-as : (P : Step → Type 0) (c : Control) {x x' : Change} {a a' : Pointing} {l l' : ℕ} {d d' i i' m m' o o' v v' n n' : Standing} → a ≡ a' → l ≡ l' → x ≡ x' → d ≡ d' → i ≡ i' → m ≡ m' → o ≡ o' → v ≡ v' → n ≡ n'
+    → P (made c x' a' l' d' i' m' o' v' n') → P (made c x a l d i m o v n)
+perhaps-as P c ea el ex ed ei em eo ev en h = rw (ea, el, ex, ed, ei, em, eo, ev, en) h

@@ -68,9 +68,25 @@ abbrev pub Stores : Sizes → ℕ → Pointing → Standing → Stored → Type 
 Stores s b at step r = (c : Control) → points (c .address) ≡ points at → stands (c .stepping) ≡ stands step
     → Steps s (look address (stored s b)) c (record { control = pointing c (r .address); change = r .change })
 
--- What a data byte makes of the address, of the LED and of the cells.
+-- The same at another position.
+abbrev pub placed : Control → Standing → Control
+placed c q = record {
+  address = c .address;
+  «data» = c .«data»;
+  stepping = c .stepping;
+  mode = c .mode;
+  dimming = c .dimming;
+  display = c .display;
+  led = c .led;
+  keys = c .keys;
+  switches = c .switches;
+  count = c .count;
+  position = q;
+}
+
+-- What a data byte makes of the address, of the LED and of the cells, whatever is known of the position.
 abbrev pub Writes : Sizes → ℕ → Control → Written → Type 0
-Writes s b c r = Steps s (look dataMode (written s b)) c (record { control = writing c (r .address) (r .led); change = r .change })
+Writes s b c r = (q : Standing) → Steps s (look dataMode (written s b)) (placed c q) (record { control = writing (placed c q) (r .address) (r .led); change = r .change })
 
 -- The address behind a byte that is stored in cell i, by the stepping.
 abbrev pub steppedOn : Sizes → ℕ → Of.Standing → Of.Standing

@@ -1,5 +1,6 @@
 // What a byte clocked in makes of a knowledge.
 use crate::commanded::first_in;
+use crate::perhaps::perhaps_in;
 use crate::stored::stored_by;
 use changes::Change;
 use changes::loosened;
@@ -14,69 +15,51 @@ use segment_knowledge::OPEN;
 use segment_knowledge::Pointing;
 use segment_knowledge::WRITE_DISPLAY;
 use segment_knowledge::WRITE_LED;
-use segment_knowledge::at;
 use segment_steps::Step;
 use segment_steps::both_pointing;
-use segment_steps::both_steps;
 use segment_steps::kept;
 use standing::Standing;
 ghost use mathlib.Core.Path.{_≡_};
 ghost use Rattle.rules.specs.Rule.{look};
 ghost use Rattle.knowing.specs.Standing.{unknown};
 ghost use Rattle.standing.specs.View.{stands};
-ghost use Rattle.segment.specs.Fact.{dataMode, position};
+ghost use Rattle.segment.specs.Fact.{position};
 ghost use Rattle.segment.specs.Family.{sizes};
-ghost use Rattle.segment.specs.Move.{written, byteIn};
+ghost use Rattle.segment.specs.Move.{byteIn};
 ghost use Rattle.segment_steps.specs.Step.{Steps};
 ghost use Rattle.segment_known.specs.Writes.{Writes};
 
-// At an unknown position the byte may be a command, or data, or do nothing. The two ways that do nothing, idle and ignoring, have in common all that is known,
-// with the position unknown as it is, and so count as one.
 pub fn byte_in(family: Family, c: Control, byte: u8) -> Step
     ensures { λ r. ⌜ Steps (sizes family) (look position (byteIn (sizes family) byte)) c r ⌝ }
 {
     let position = c.position;
-    match position {
-        Standing::Known(place) => in_at(family, c, byte, place),
-        Standing::Unknown => {
-            let first = first_in(family, at(c, FIRST), byte);
-            let open = open_in(family, at(c, OPEN), byte);
-            both_steps(both_steps(kept(c), first), open)
-        }
-    }
-}
-
-fn in_at(family: Family, c: Control, byte: u8, place: u8) -> Step
-    ensures { λ r. ⌜ Steps (sizes family) (byteIn (sizes family) byte place) c r ⌝ }
-{
+    let Standing::Known(place) = position else {
+        return perhaps_in(family, c, byte);
+    };
     match place {
         FIRST => first_in(family, c, byte),
-        OPEN => open_in(family, c, byte),
+        OPEN => {
+            let next = data_in(family, c, byte);
+            let address = next.address;
+            let led = next.led;
+            let change = next.change;
+            Step {
+                control: Control { address, led, ..c },
+                change,
+            }
+        }
         _ => kept(c),
     }
 }
 
-fn open_in(family: Family, c: Control, byte: u8) -> Step
-    ensures { λ r. ⌜ Steps (sizes family) (look dataMode (written (sizes family) byte)) c r ⌝ }
-{
-    let next = data_in(family, c, byte);
-    let address = next.address;
-    let led = next.led;
-    let change = next.change;
-    Step {
-        control: Control { address, led, ..c },
-        change,
-    }
-}
-
 // All that a data byte may change.
-struct Written {
+pub struct Written {
     pub address: Pointing,
     pub led: u16,
     pub change: Change,
 }
 
-fn data_in(family: Family, c: Control, byte: u8) -> Written
+pub fn data_in(family: Family, c: Control, byte: u8) -> Written
     ensures { λ r. ⌜ Writes (sizes family) byte c r ⌝ }
 {
     let data = c.data;

@@ -32,14 +32,13 @@ ghost use Rattle.segment.specs.Family.{sizes};
 ghost use Rattle.segment.specs.Move.{toMode, tested, commanded};
 ghost use Rattle.segment.specs.Value.{pointer, data-mode, steps, shows};
 ghost use Rattle.segment_knowledge.specs.View.{points};
-ghost use Rattle.changes.specs.Change.{Plain};
 ghost use Rattle.segment_steps.specs.Step.{Steps, Keeps, Forgets};
 ghost use Rattle.knowing.specs.Standing.{known};
 ghost use Rattle.standing.specs.View.{stands};
 ghost use Rattle.segment_known.specs.Ways.{displayIn};
 
 pub fn first_in(family: Family, mut c: Control, byte: u8) -> Step
-    ensures { λ r. ⌜ (Steps (sizes family) (commanded (commandOf (sizes family) byte)) c r) × (Plain (r .change)) ⌝ }
+    ensures { λ r. ⌜ Steps (sizes family) (commanded (commandOf (sizes family) byte)) c r ⌝ }
 {
     let command = command_of(family, byte);
     match command {
@@ -107,7 +106,7 @@ pub fn address_set(family: Family, c: Control, to: Pointer) -> Control
     }
 }
 
-fn data_number(data: Data) -> u8
+pub fn data_number(data: Data) -> u8
     ensures { λ r. ⌜ r ≡ data-mode «data» ⌝ }
 {
     match data {
@@ -118,7 +117,7 @@ fn data_number(data: Data) -> u8
     }
 }
 
-fn step_number(stepping: Stepping) -> u8
+pub fn step_number(stepping: Stepping) -> u8
     ensures { λ r. ⌜ r ≡ steps stepping ⌝ }
 {
     match stepping {
@@ -127,7 +126,7 @@ fn step_number(stepping: Stepping) -> u8
     }
 }
 
-fn display_number(display: Display) -> u8
+pub fn display_number(display: Display) -> u8
     ensures { λ r. ⌜ r ≡ shows display ⌝ }
 {
     match display {
@@ -162,7 +161,7 @@ pub fn to_mode(family: Family, c: Control, code: u8) -> Control
 }
 
 // What is known of the display when a mode command has come: another mode turns it off.
-fn display_in(old: Standing, code: u8, shown: Standing) -> Standing
+pub fn display_in(old: Standing, code: u8, shown: Standing) -> Standing
     ensures { λ r. ⌜ stands r ≡ displayIn (stands old) code (stands shown) ⌝ }
 {
     match old {

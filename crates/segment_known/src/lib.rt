@@ -4,6 +4,7 @@ mod commanded;
 mod everyday;
 mod latches;
 mod moves;
+mod perhaps;
 mod reads;
 mod stored;
 

@@ -1,4 +1,3 @@
 pub mod Step
 pub mod StepLaws
 pub mod StepWays
-pub mod Both

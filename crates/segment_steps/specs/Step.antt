@@ -1,12 +1,11 @@
 -- What an event makes of a knowledge, told in two: the facts beside the cells, and what happens to the cells.
 use Prim.Native.Nat.{ℕ}
-use mathlib.Core.Path.{_≡_}
 use Rattle.rules.specs.Rule.{Rule}
 use Rattle.knowing.specs.Standing.{Standing, unknown}
 use Rattle.knowing.specs.Steps as Of
 use Rattle.knowing.specs.Ways as Ways
 use Rattle.changes.specs.declared.change.Change.the-variants.{Keep, Forget}
-use Rattle.changes.specs.Change.{seen, Inside, joined}
+use Rattle.changes.specs.Change.{seen, Inside}
 use Rattle.segment.specs.declared.chip.Sizes.{Sizes}
 use Rattle.segment.specs.Fact.{Fact, same?, range, cellBits}
 use Rattle.segment_knowledge.specs.declared.control.Control.{Control}
@@ -37,8 +36,3 @@ keptOf c = record { control = c; change = Keep }
 
 abbrev pub forgottenOf : Control → Step
 forgottenOf c = record { control = c; change = Forget }
-
--- The step r has in common what a and b have.
-pub record Both (a b r : Step) : Type 0 where
-  pub control : (cells : ℕ → ℕ → Standing) → Ways.Joins (cview cells) (a .control) (b .control) (r .control)
-  pub change : r .change ≡ joined (a .change) (b .change)

@@ -1,14 +1,12 @@
 // What an event makes of a knowledge: the facts beside the memory, and what happens to the memory.
-use crate::join::both;
 use changes::Change;
-use changes::both_changes;
 use segment::Family;
 use segment_knowledge::Control;
 use segment_knowledge::no_control;
 ghost use mathlib.Core.Path.{_≡_};
 ghost use Rattle.rules.specs.Rule.{gives, free};
 ghost use Rattle.segment.specs.Family.{sizes};
-ghost use Rattle.segment_steps.specs.Step.{keptOf, forgottenOf, Both, Steps};
+ghost use Rattle.segment_steps.specs.Step.{keptOf, forgottenOf, Steps};
 
 pub struct Step {
     pub control: Control,
@@ -33,19 +31,6 @@ pub fn forgotten(control: Control) -> Step
         control,
         change: Change::Forget,
     }
-}
-
-// What two steps have in common.
-pub fn both_steps(a: Step, b: Step) -> Step
-    ensures { λ r. ⌜ Both a b r ⌝ }
-{
-    let a_control = a.control;
-    let b_control = b.control;
-    let control = both(a_control, b_control);
-    let a_change = a.change;
-    let b_change = b.change;
-    let change = both_changes(a_change, b_change);
-    Step { control, change }
 }
 
 // Whatever was known, events were lost.

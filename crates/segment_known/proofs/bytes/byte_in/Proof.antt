@@ -1,12 +1,13 @@
--- `segment_known::bytes::byte_in` meets its contract: a known position goes its one way, an unknown one all four, of which the two that do nothing are one.
--- Assumes nothing.
-use mathlib.Core.Path.{ap}
+-- `segment_known::bytes::byte_in` meets its contract: each arm knows the position, or that it is unknown. Assumes nothing.
+use mathlib.Core.Path.{refl, ap, _∙_}
+use Rattle.knowing.specs.Standing.{known}
 use Rattle.standing.specs.View.{stands}
 use Rattle.segment.specs.Fact.{position}
 use Rattle.segment.specs.Family.{sizes}
 use Rattle.segment.specs.Move.{byteIn}
+use Rattle.segment_steps.specs.StepLaws.{as-steps, kept-steps}
 use Rattle.segment_steps.specs.StepWays.{step-known}
-use Rattle.segment_known.specs.Anywhere.{goes, four-ways}
+use Rattle.segment_known.specs.Ways.{other-in}
 use borrow.Author.Needs.{needs}
 use Rattle.segment_known.proofs.bytes.byte_in.Statement.{statement}
 use Rattle.segment_known.proofs.bytes.byte_in.Tie as tie
@@ -14,59 +15,50 @@ use Rattle.segment_known.proofs.bytes.byte_in.Tie as tie
 enum-known-position : tie.Need-enum-known-position
 enum-known-position c = search needs
 
-in-at-requires : tie.Need-in-at-requires
-in-at-requires c κs = search needs
-
 enum-told : tie.Need-enum-told
 enum-told c = search needs
 
-at-requires : tie.Need-at-requires
-at-requires c κs = search needs
+perhaps-in-requires : tie.Need-perhaps-in-requires
+perhaps-in-requires c κs = ap stands (c .enum-told .given .1)
+
+returns : tie.Need-returns
+returns c = search needs
 
 first-in-requires : tie.Need-first-in-requires
 first-in-requires c κs = search needs
 
-at-requires-2 : tie.Need-at-requires-2
-at-requires-2 c κs = search needs
-
-open-in-requires : tie.Need-open-in-requires
-open-in-requires c κs = search needs
+data-in-requires : tie.Need-data-in-requires
+data-in-requires c κs = search needs
 
 kept-requires : tie.Need-kept-requires
 kept-requires c κs = search needs
 
-both-steps-requires : tie.Need-both-steps-requires
-both-steps-requires c κs = search needs
-
-both-steps-requires-2 : tie.Need-both-steps-requires-2
-both-steps-requires-2 c κs = search needs
-
-returns : tie.Need-returns
-returns c = let a = c .before .before .before .before .args in
-    step-known (sizes (a .family)) position (byteIn (sizes (a .family)) (a .byte)) (a .c) _ (λ cells. ap stands (c .before .before .position .given .1)) (c .in-at .ensures)
-
 returns-2 : tie.Need-returns-2
-returns-2 c = let a = c .before .before .before .before .before .before .before .before .before .args in
+returns-2 c = let a = c .before .before .before .before .before .args in
     let s = sizes (a .family) in
-    let first = c .before .before .before .before .before .first-in .ensures in
-    four-ways s (a .byte) (a .c) (ap stands (c .before .before .before .before .before .before .before .enum-told .given .1)) (c .before .before .kept .ensures)
-    (goes s (a .byte) (a .c) 1 _ (c .before .before .before .before .before .before .at .ensures) (first .0))
-    (goes s (a .byte) (a .c) 2 _ (c .before .before .before .before .at2 .ensures) (c .before .before .before .open-in .ensures))
-    (first .1) (c .before .both-steps .ensures) (c .both-steps2 .ensures)
+    step-known s position (byteIn s (a .byte)) (a .c) 1 (λ cells. ap stands (c .before .before .before .position .given .1) ∙ ap known (c .before .match2 .keys1)) (c .first-in .ensures)
+
+returns-3 : tie.Need-returns-3
+returns-3 c = let a = c .before .before .before .before .before .before .args in
+    let s = sizes (a .family) in
+    step-known s position (byteIn s (a .byte)) (a .c) 2 (λ cells. ap stands (c .before .before .before .before .position .given .1) ∙ ap known (c .before .before .match2 .keys2)) (c .before .data-in .ensures (a .c .position))
+
+returns-4 : tie.Need-returns-4
+returns-4 c = let a = c .before .before .before .before .before .args in
+    let s = sizes (a .family) in
+    step-known s position (byteIn s (a .byte)) (a .c) _ (λ cells. ap stands (c .before .before .before .position .given .1)) (as-steps (other-in _ _ _ (c .before .match2 .rest .0 .1) (c .before .match2 .rest .1)) (kept-steps (c .kept .ensures) (λ cells f. refl)))
 
 pub byte-in-spec : {M : Type 1} → statement M
 byte-in-spec =
     tie.close
     (tie.spec
     enum-known-position
-    in-at-requires
     enum-told
-    at-requires
-    first-in-requires
-    at-requires-2
-    open-in-requires
-    kept-requires
-    both-steps-requires
-    both-steps-requires-2
+    perhaps-in-requires
     returns
-    returns-2)
+    first-in-requires
+    data-in-requires
+    kept-requires
+    returns-2
+    returns-3
+    returns-4)

@@ -8,7 +8,7 @@ use Rattle.segment.specs.Move.{written}
 use Rattle.segment_steps.specs.StepLaws.{as-steps, kept-steps}
 use Rattle.segment_steps.specs.StepWays.{step-known}
 use Rattle.segment_known.specs.Ways.{other-written}
-use Rattle.segment_known.specs.Writes.{lit-told}
+use Rattle.segment_known.specs.Writes.{placed, lit-told}
 use borrow.Author.Needs.{needs}
 use Rattle.segment_known.proofs.bytes.data_in.Statement.{statement}
 use Rattle.segment_known.proofs.bytes.data_in.Tie as tie
@@ -34,17 +34,17 @@ put-byte-requires c κs = search needs
 returns-2 : tie.Need-returns-2
 returns-2 c = let a = c .before .before .before .before .before .args in
     let s = sizes (a .family) in
-    step-known s dataMode (written s (a .byte)) (a .c) 0 (λ cells. ap stands (c .before .before .before .«data» .given .1) ∙ ap known (c .before .match2 .keys1)) (c .stored-by .ensures (a .c) refl refl)
+    λ q. step-known s dataMode (written s (a .byte)) (placed (a .c) q) 0 (λ cells. ap stands (c .before .before .before .«data» .given .1) ∙ ap known (c .before .match2 .keys1)) (c .stored-by .ensures (placed (a .c) q) refl refl)
 
 returns-3 : tie.Need-returns-3
 returns-3 c = let a = c .before .before .before .before .before .args in
     let s = sizes (a .family) in
-    step-known s dataMode (written s (a .byte)) (a .c) 1 (λ cells. ap stands (c .before .before .before .«data» .given .1) ∙ ap known (c .before .match2 .keys2)) (kept-steps refl (λ cells. lit-told (a .c) (a .byte) _ (c .put-byte .ensures) cells))
+    λ q. step-known s dataMode (written s (a .byte)) (placed (a .c) q) 1 (λ cells. ap stands (c .before .before .before .«data» .given .1) ∙ ap known (c .before .match2 .keys2)) (kept-steps refl (λ cells. lit-told (placed (a .c) q) (a .byte) _ (c .put-byte .ensures) cells))
 
 returns-4 : tie.Need-returns-4
 returns-4 c = let a = c .before .before .before .before .args in
     let s = sizes (a .family) in
-    step-known s dataMode (written s (a .byte)) (a .c) _ (λ cells. ap stands (c .before .before .«data» .given .1)) (as-steps (other-written _ _ _ (c .match2 .rest .0 .1) (c .match2 .rest .1)) (kept-steps refl (λ cells f. refl)))
+    λ q. step-known s dataMode (written s (a .byte)) (placed (a .c) q) _ (λ cells. ap stands (c .before .before .«data» .given .1)) (as-steps (other-written _ _ _ (c .match2 .rest .0 .1) (c .match2 .rest .1)) (kept-steps refl (λ cells f. refl)))
 
 pub data-in-spec : {M : Type 1} → statement M
 data-in-spec =

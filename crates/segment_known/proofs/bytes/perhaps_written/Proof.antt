@@ -7,7 +7,7 @@ use Rattle.segment.specs.Fact.{dataMode}
 use Rattle.segment.specs.Family.{sizes}
 use Rattle.segment.specs.Move.{written}
 use Rattle.segment_steps.specs.Step.{Steps}
-use Rattle.segment_known.specs.Writes.{writing, perhaps-written, met-led}
+use Rattle.segment_known.specs.Writes.{writing, placed, perhaps-written, met-led}
 use borrow.Author.Needs.{needs}
 use Rattle.segment_known.proofs.bytes.perhaps_written.Statement.{statement}
 use Rattle.segment_known.proofs.bytes.perhaps_written.Tie as tie
@@ -30,8 +30,8 @@ loosened-requires c κs = search needs
 returns : tie.Need-returns
 returns c = let a = c .before .before .before .before .before .args in
     let s = sizes (a .family) in
-    subst⁻¹ (λ (x : Change). Steps s (look dataMode (written s (a .byte))) (a .c) (record { control = writing (a .c) (c .before .before .before .both-pointing .result) (c .before .meet-code .result); change = x })) (c .loosened .ensures)
-    (perhaps-written (a .family) (a .c) (a .byte) (c .before .before .before .before .stored-by .result) _ _ (c .before .before .before .before .stored-by .ensures) (c .before .before .before .before .before .pre) (c .before .before .before .both-pointing .ensures)
+    λ q. subst⁻¹ (λ (x : Change). Steps s (look dataMode (written s (a .byte))) (placed (a .c) q) (record { control = writing (placed (a .c) q) (c .before .before .before .both-pointing .result) (c .before .meet-code .result); change = x })) (c .loosened .ensures)
+    (perhaps-written (a .family) (placed (a .c) q) (a .byte) (c .before .before .before .before .stored-by .result) _ _ (c .before .before .before .before .stored-by .ensures) (c .before .before .before .before .before .pre) (c .before .before .before .both-pointing .ensures)
     (λ k. met-led (a .byte) _ _ _ (c .before .before .code-of .ensures 4 wide4) (c .before .meet-code .ensures) k))
 
 pub perhaps-written-spec : {M : Type 1} → statement M

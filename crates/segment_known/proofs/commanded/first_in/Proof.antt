@@ -1,17 +1,14 @@
 -- `segment_known::commanded::first_in` meets its contract: each arm knows the command, and keeps the cells or forgets them.
 -- Assumes nothing.
-use mathlib.Core.Path.{_≡_, sym, ap, _∙_, subst⁻¹}
+use mathlib.Core.Path.{sym, ap, _∙_}
 use mathlib.Core.Logic.{⊎-elim}
 use Rattle.knowing.specs.Standing.{unknown}
 use Rattle.knowing.specs.Ways.{as-rule}
-use Rattle.segment.specs.Command.{commandOf}
 use Rattle.segment.specs.Fact.{same?, range}
 use Rattle.segment.specs.Family.{sizes}
 use Rattle.segment.specs.Move.{commanded}
 use Rattle.segment_knowledge.specs.View.{cview}
-use Rattle.segment_steps.specs.declared.steps.Step.{Step}
-use Rattle.segment_steps.specs.Step.{Steps, keptOf}
-use Rattle.changes.specs.Change.{Plain}
+use Rattle.segment_steps.specs.Step.{keptOf}
 use Rattle.segment_steps.specs.StepLaws.{kept-steps, forgotten-steps, as-steps}
 use Rattle.segment_known.specs.Ways.{mode-small}
 use borrow.Author.Needs.{needs}
@@ -32,10 +29,8 @@ forgotten-requires c κs = search needs
 
 returns : tie.Need-returns
 returns c = let a = c .before .before .before .before .before .args in
-    let s = sizes (a .family) in (
-      forgotten-steps (c .forgotten .ensures) (λ cells. as-rule (cview cells) (cview (λ i k. unknown)) same? (range s) _ _ (a .c) _ (ap commanded (sym (c .before .before .before .before .command-of .ensures) ∙ c .before .before .enum-told .given .1)) (c .before .in-test .ensures cells)),
-      subst⁻¹ (λ (x : Step). Plain (x .change)) (c .forgotten .ensures) tt,
-    )
+    let s = sizes (a .family) in
+    forgotten-steps (c .forgotten .ensures) (λ cells. as-rule (cview cells) (cview (λ i k. unknown)) same? (range s) _ _ (a .c) _ (ap commanded (sym (c .before .before .before .before .command-of .ensures) ∙ c .before .before .enum-told .given .1)) (c .before .in-test .ensures cells))
 
 enum-known-command : tie.Need-enum-known-command
 enum-known-command c = search needs
@@ -75,14 +70,12 @@ returns-2 : tie.Need-returns-2
 returns-2 c = let a = c .before .before .before .args in
     let s = sizes (a .family) in
     let e = sym (c .before .before .command-of .ensures) in
-    let k : Steps s (commanded (commandOf s (a .byte))) (a .c) (c .kept .result) =
     ⊎-elim (λ w. as-steps (ap commanded (e ∙ w .1 .given .1)) (kept-steps (c .kept .ensures ∙ ap keptOf (w .4)) (w .3 .ensures)))
     (⊎-elim (λ w. as-steps (ap commanded (e ∙ w .1 .given .1)) (kept-steps (c .kept .ensures ∙ ap keptOf (w .4)) (w .3 .ensures)))
     (⊎-elim (λ w. as-steps (ap commanded (e ∙ w .1 .given .1)) (kept-steps (c .kept .ensures ∙ ap keptOf (w .4)) (w .3 .ensures)))
     (⊎-elim (λ w. as-steps (ap commanded (e ∙ w .1 .given .1)) (kept-steps (c .kept .ensures ∙ ap keptOf (w .4)) (w .3 .ensures)))
     (λ w. as-steps (ap commanded (e ∙ w .1 .given .1)) (kept-steps (c .kept .ensures ∙ ap keptOf (w .4)) (w .3 .ensures))))))
-    (c .before .match .came) in
-    (k, subst⁻¹ (λ (x : Step). Plain (x .change)) (c .kept .ensures) tt)
+    (c .before .match .came)
 
 pub first-in-spec : {M : Type 1} → statement M
 first-in-spec =

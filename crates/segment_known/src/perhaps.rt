@@ -1,0 +1,102 @@
+// What is left of a knowledge where a byte clocked in may have been a command, or data, or nothing: a fact that it would set stays known where it has that value already, and all others are as they were.
+use crate::bytes::data_in;
+use crate::commanded::data_number;
+use crate::commanded::display_in;
+use crate::commanded::display_number;
+use crate::commanded::known_pointing;
+use crate::commanded::step_number;
+use changes::Change;
+use changes::loosened;
+use lamps::both_lamps;
+use segment::Command;
+use segment::Family;
+use segment_first_byte::command_of;
+use segment_knowledge::Control;
+use segment_knowledge::Pointing;
+use segment_steps::Step;
+use segment_steps::both_pointing;
+use standing::Standing;
+use standing::both_standing;
+ghost use mathlib.Core.Path.{_≡_};
+ghost use Rattle.rules.specs.Rule.{look};
+ghost use Rattle.knowing.specs.Standing.{known, unknown};
+ghost use Rattle.knowing.specs.Know.{join};
+ghost use Rattle.standing.specs.View.{stands};
+ghost use Rattle.segment.specs.Fact.{position};
+ghost use Rattle.segment.specs.Family.{sizes};
+ghost use Rattle.segment.specs.Move.{byteIn};
+ghost use Rattle.segment_steps.specs.Step.{Steps};
+
+pub fn perhaps_in(family: Family, c: Control, byte: u8) -> Step
+    requires { ⌜ stands (c .position) ≡ unknown ⌝ }
+    ensures { λ r. ⌜ Steps (sizes family) (look position (byteIn (sizes family) byte)) c r ⌝ }
+{
+    let next = data_in(family, c, byte);
+    let to = next.address;
+    let stored = next.change;
+    let from = c.address;
+    let mut address = both_pointing(from, to);
+    let mut led = both_lamps(c.led, next.led);
+    let mut change = loosened(stored);
+    let mut data = c.data;
+    let mut stepping = c.stepping;
+    let mut mode = c.mode;
+    let mut dimming = c.dimming;
+    let mut display = c.display;
+    let mut count = c.count;
+    let command = command_of(family, byte);
+    match command {
+        Command::Mode(code) => {
+            let off = display_in(mode, code, display);
+            display = both_standing(display, off);
+            mode = perhaps(mode, code);
+        }
+        Command::Test => {
+            address = Pointing::Unknown;
+            data = Standing::Unknown;
+            stepping = Standing::Unknown;
+            mode = Standing::Unknown;
+            dimming = Standing::Unknown;
+            display = Standing::Unknown;
+            led = 0;
+            count = Standing::Unknown;
+            change = Change::Forget;
+        }
+        Command::Setting(kind, step) => {
+            data = perhaps(data, data_number(kind));
+            stepping = perhaps(stepping, step_number(step));
+            count = perhaps(count, 0);
+        }
+        Command::AnySetting(step) => {
+            data = Standing::Unknown;
+            stepping = perhaps(stepping, step_number(step));
+            count = perhaps(count, 0);
+        }
+        Command::Control(level, shown) => {
+            dimming = perhaps(dimming, level);
+            display = perhaps(display, display_number(shown));
+        }
+        Command::Start(start) => address = both_pointing(address, known_pointing(start)),
+    }
+    Step {
+        control: Control {
+            address,
+            data,
+            stepping,
+            mode,
+            dimming,
+            display,
+            led,
+            count,
+            ..c
+        },
+        change,
+    }
+}
+
+// The fact may have become v.
+fn perhaps(s: Standing, v: u8) -> Standing
+    ensures { λ r. ⌜ stands r ≡ join (stands s) (known v) ⌝ }
+{
+    both_standing(s, Standing::Known(v))
+}
