@@ -46,6 +46,7 @@ use Rattle.segment_known.specs.Everyday.{Counting, Roaming, Drifting, PerhapsLi
 use Rattle.segment_known.specs.Moved.{step-done}
 use Rattle.segment_known.specs.Drift.{drifted, drifted-each, drifted-ends}
 use Rattle.segment_known.specs.Writes.{writing, pointing}
+use Rattle.segment_everyday.specs.Still.{Stills}
 
 -- A command does what the byte says that it is.
 module _ (p : Family) (b : ℕ) (begun r : Control) (is says : Command) (e : is ≡ commandOf (sizes p) b) (f : is ≡ says) where
@@ -119,6 +120,10 @@ module _ (part : Part) (p : Family) (l : List ℕ) (first : Knowledge) where
   pub passes : (i n : ℕ) (cells : List ℕ) (c : Control) → Run l i n
       → ((b : ℕ) (f : Fact) → cview (held cells) c f ≡ know same? (range (sizes p)) (move (sizes p) (ByteIn b)) (cview (held cells) c) f) → Here i cells c → Here (i + 2 * n) cells c
   passes i n cells c run deaf h = ran i n cells cells c c (λ j. cview (held cells) c) run (h .size) (λ f. refl) (λ f. refl) (λ j o. deaf (byteOf l i j)) h
+
+  -- The same of a run of which each byte changes nothing.
+  pub stays : (i n : ℕ) (cells : List ℕ) (c : Control) → Stills p c l i n → Here i cells c → Here (i + 2 * n) cells c
+  stays i n cells c s h = ran i n cells cells c c (λ j. cview (held cells) c) (s .run) (h .size) (λ f. refl) (λ f. refl) (λ j o. s .each j o .knows (held cells)) h
 
   -- A run that is stored.
   pub stores : (i n to : ℕ) (old new : List ℕ) (c r : Control) → Counting (sizes p) c to → PutsRun 65535 to (sizes p .cells) l i old n new → length new ≡ 36 → r ≡ pointing c (ring (sizes p) (to + n))

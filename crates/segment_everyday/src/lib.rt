@@ -1,4 +1,7 @@
 // The records of every day for PT6312 and PT6315, one behind the other.
+mod still;
+
+use crate::still::still;
 use byte_runs::passed;
 use byte_runs::shared;
 use changes::forget;
@@ -147,8 +150,13 @@ pub fn everyday_walk(
                         if nothing_left(control) && none_known(cells) {
                             i += 2 * passed(bytes, at);
                         } else {
-                            control = taken(family, control, cells, Event::ByteIn(byte));
-                            i += 2;
+                            let count = still(family, control, bytes, at);
+                            if 0 < count {
+                                i += 2 * count;
+                            } else {
+                                control = taken(family, control, cells, Event::ByteIn(byte));
+                                i += 2;
+                            }
                         }
                     }
                 }

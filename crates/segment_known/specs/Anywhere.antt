@@ -3,6 +3,7 @@
 use Prim.Native.Nat.{ℕ, _≤_}
 use native.Mathlib.Omega.{arith}
 use mathlib.Core.Path.{_≡_, refl, sym, ap, ap₂, _∙_, subst⁻¹}
+use borrow.Author.Tests.{eq-eqb}
 use Rattle.rules.specs.Rule.{look}
 use Rattle.knowing.specs.Standing as Of
 use Rattle.knowing.specs.Standing.{known, unknown}
@@ -16,19 +17,20 @@ use Rattle.standing.specs.declared.standing.Standing.the-variants.{Known, Unkno
 use Rattle.lamps.specs.View.{shown}
 use Rattle.lamps.specs.Lamp.{none-shown}
 use Rattle.changes.specs.declared.change.Change.{Change}
-use Rattle.changes.specs.declared.change.Change.the-variants.{Forget}
+use Rattle.changes.specs.declared.change.Change.the-variants.{Keep, Forget}
 use Rattle.changes.specs.Change.{seen, Inside, loose}
 use Rattle.changes.specs.Together.{loose-seen, loose-inside}
 use Rattle.segment.specs.declared.chip.Family.{Family}
 use Rattle.segment.specs.declared.chip.Data.{Data}
 use Rattle.segment.specs.declared.chip.Display.{Display}
+use Rattle.segment.specs.declared.chip.Display.the-variants.{Off}
 use Rattle.segment.specs.declared.chip.Pointer.{Pointer}
 use Rattle.segment.specs.declared.chip.Stepping.{Stepping}
 use Rattle.segment.specs.declared.command.Command.{Command}
 use Rattle.segment.specs.declared.command.Command.the-variants.{Mode, Test, Setting, AnySetting, Control as Controls, Start}
 use Rattle.segment.specs.Command.{commandOf}
 use Rattle.segment.specs.Family.{sizes}
-use Rattle.segment.specs.Fact.{Fact, same?, range, cell, address, dataMode, stepping, mode, dimming, display, led, key, switches, readCount, position}
+use Rattle.segment.specs.Fact.{Fact, same?, range, dataMode, mode, position}
 use Rattle.segment.specs.Laws.{every, led-tested}
 use Rattle.segment.specs.Value.{pointer, data-mode, steps, shows}
 use Rattle.segment.specs.Move.{written, toMode, commanded, byteIn}
@@ -37,7 +39,7 @@ use Rattle.segment_knowledge.specs.declared.control.Pointing.{Pointing}
 use Rattle.segment_knowledge.specs.declared.control.Pointing.the-variants.{Unknown as Anywhere}
 use Rattle.segment_knowledge.specs.View.{points, cview}
 use Rattle.segment_steps.specs.declared.steps.Step.{Step}
-use Rattle.segment_steps.specs.Step.{sview, StaysInside, Steps}
+use Rattle.segment_steps.specs.Step.{sview, StaysInside, Steps, keptOf}
 use Rattle.segment_known.specs.declared.bytes.Written.{Written}
 use Rattle.segment_known.specs.Ways.{displayIn, inMode, mode-set, mode-small, top-room}
 use Rattle.segment_known.specs.Writes.{writing, placed, Writes}
@@ -80,7 +82,7 @@ idle-or-ignoring cells c u x = go (same? x position)
 in-order : (a b p q : Of.Standing) → join (join (join a b) q) p ≡ join (join (join a p) q) b
 in-order a b p q = join-late (join a b) q p ∙ ap (λ (s : Of.Standing). join s q) (join-late a b p) ∙ join-late (join a p) b q
 
--- c with these facts and another position or not; keys and switches stay.
+-- The step that does this to the cells and leaves these facts; keys, switches and position are those of c.
 abbrev pub made : Control → Change → Pointing → ℕ → Standing → Standing → Standing → Standing → Standing → Standing → Step
 made c x a l d i m o v n = record {
   control = record {
@@ -185,3 +187,49 @@ module _ (p : Family) (b : ℕ) (c : Control) (u : stands (c .position) ≡ unkn
 pub perhaps-as : (P : Step → Type 0) (c : Control) {x x' : Change} {a a' : Pointing} {l l' : ℕ} {d d' i i' m m' o o' v v' n n' : Standing} → a ≡ a' → l ≡ l' → x ≡ x' → d ≡ d' → i ≡ i' → m ≡ m' → o ≡ o' → v ≡ v' → n ≡ n'
     → P (made c x' a' l' d' i' m' o' v' n') → P (made c x a l d i m o v n)
 perhaps-as P c ea el ex ed ei em eo ev en h = rw (ea, el, ex, ed, ei, em, eo, ev, en) h
+
+-- As data the byte b leaves all as it is.
+pub record Quiet (p : Family) (b : ℕ) (c : Control) : Type 0 where
+  pub next : Written
+  pub data-in : Writes (sizes p) b c next
+  pub kept : Keep ≡ loose (next .change)
+  pub pointed : points (c .address) ≡ join (points (c .address)) (points (next .address))
+  pub lit : (k : ℕ) → shown 4 (c .led) k ≡ join (shown 4 (c .led) k) (shown 4 (next .led) k)
+
+-- A mode command leaves mode and display.
+abbrev pub StaysModed : Of.Standing → ℕ → Of.Standing → Type 0
+StaysModed m n v = (m ≡ join m (known n)) × (v ≡ join v (displayIn m n v))
+
+pub same-mode : (n : ℕ) (m v : Of.Standing) → m ≡ known n → StaysModed m n v
+same-mode n m v e = rw (e, eq-eqb n n refl) (sym (join-itself (known n)), sym (join-itself v))
+
+pub any-mode : (n : ℕ) (m v : Of.Standing) → m ≡ unknown → v ≡ join v (known (shows Off)) → StaysModed m n v
+any-mode n m v u e = rw u (join-not _ _ refl, sym (ap (join v) (sym e) ∙ join-itself v))
+
+-- A fact of which that is known.
+said : Of.Standing → Standing
+said (known v) = Known v
+said unknown = Unknown
+
+said-so : (t : Of.Standing) → stands (said t) ≡ t
+unfolding said
+said-so (known v) = refl
+said-so unknown = refl
+
+-- So all is as it was where the command, too, leaves all that it would set.
+module _ (p : Family) (b : ℕ) (c : Control) (u : stands (c .position) ≡ unknown) (q : Quiet p b c) where
+  pub unmoved-mode : (n : ℕ) → Mode n ≡ commandOf (sizes p) b → StaysModed (stands (c .mode)) n (stands (c .display)) → Steps (sizes p) (look position (byteIn (sizes p) b)) c (keptOf c)
+  unmoved-mode n is h =
+      let dark = displayIn (stands (c .mode)) n (stands (c .display)) in
+      perhaps-mode p b c u (q .next) (q .data-in) Keep (c .address) (c .led) (q .kept) (q .pointed) (q .lit) n (said dark) (c .mode) (c .display) is (said-so dark) (h .0) (h .1 ∙ ap (join (stands (c .display))) (sym (said-so dark)))
+
+  pub unmoved-setting : (d : Data) (i : Stepping) → Setting d i ≡ commandOf (sizes p) b → stands (c .«data») ≡ join (stands (c .«data»)) (known (data-mode d)) → stands (c .stepping) ≡ join (stands (c .stepping)) (known (steps i))
+      → stands (c .count) ≡ join (stands (c .count)) (known 0) → Steps (sizes p) (look position (byteIn (sizes p) b)) c (keptOf c)
+  unmoved-setting d i is = perhaps-setting p b c u (q .next) (q .data-in) Keep (c .address) (c .led) (q .kept) (q .pointed) (q .lit) d i (c .«data») (c .stepping) (c .count) is
+
+  pub unmoved-control : (n : ℕ) (o : Display) → Controls n o ≡ commandOf (sizes p) b → stands (c .dimming) ≡ join (stands (c .dimming)) (known n) → stands (c .display) ≡ join (stands (c .display)) (known (shows o))
+      → Steps (sizes p) (look position (byteIn (sizes p) b)) c (keptOf c)
+  unmoved-control n o is = perhaps-control p b c u (q .next) (q .data-in) Keep (c .address) (c .led) (q .kept) (q .pointed) (q .lit) n o (c .dimming) (c .display) is
+
+  pub unmoved-start : (to : Pointer) → Start to ≡ commandOf (sizes p) b → points (c .address) ≡ unknown → Steps (sizes p) (look position (byteIn (sizes p) b)) c (keptOf c)
+  unmoved-start to is v = perhaps-start p b c u (q .next) (q .data-in) Keep (c .address) (c .led) (q .kept) (q .pointed) (q .lit) to (c .address) is (v ∙ join-not _ _ v)

@@ -26,3 +26,4 @@ pub use everyday::perhaps_stepped;
 pub use everyday::rises;
 pub use moves::moved;
 pub use moves::taken;
+pub use perhaps::unmoved;

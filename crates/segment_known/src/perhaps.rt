@@ -7,17 +7,23 @@ use crate::commanded::known_pointing;
 use crate::commanded::step_number;
 use changes::Change;
 use changes::loosened;
+use lamps::FOUR;
 use lamps::both_lamps;
+use lamps::put_byte;
 use segment::Command;
 use segment::Family;
 use segment_first_byte::command_of;
 use segment_knowledge::Control;
+use segment_knowledge::OFF;
 use segment_knowledge::Pointing;
+use segment_knowledge::WRITE_DISPLAY;
+use segment_knowledge::WRITE_LED;
 use segment_steps::Step;
 use segment_steps::both_pointing;
 use standing::Standing;
 use standing::both_standing;
 ghost use mathlib.Core.Path.{_≡_};
+ghost use mathlib.Core.Bool.{true};
 ghost use Rattle.rules.specs.Rule.{look};
 ghost use Rattle.knowing.specs.Standing.{known, unknown};
 ghost use Rattle.knowing.specs.Know.{join};
@@ -25,7 +31,8 @@ ghost use Rattle.standing.specs.View.{stands};
 ghost use Rattle.segment.specs.Fact.{position};
 ghost use Rattle.segment.specs.Family.{sizes};
 ghost use Rattle.segment.specs.Move.{byteIn};
-ghost use Rattle.segment_steps.specs.Step.{Steps};
+ghost use Rattle.segment_steps.specs.Step.{Steps, keptOf};
+ghost use Rattle.segment_known.specs.Anywhere.{Quiet, StaysModed};
 
 pub fn perhaps_in(family: Family, c: Control, byte: u8) -> Step
     requires { ⌜ stands (c .position) ≡ unknown ⌝ }
@@ -99,4 +106,92 @@ fn perhaps(s: Standing, v: u8) -> Standing
     ensures { λ r. ⌜ stands r ≡ join (stands s) (known v) ⌝ }
 {
     both_standing(s, Standing::Known(v))
+}
+
+// At an unknown position this byte changes nothing that is known: as data it leaves all as it is, and what it would set as a command is unknown or has that value already. Where it may forget more, it
+// counts as one that changes something.
+pub fn unmoved(family: Family, c: Control, byte: u8) -> bool
+    ensures { λ r. ⌜ (r ≡ true → Steps (sizes family) (look position (byteIn (sizes family) byte)) c (keptOf c)) ⌝ }
+{
+    let position = c.position;
+    let Standing::Unknown = position else {
+        return false;
+    };
+    if !stays_lit(family, c, byte) {
+        return false;
+    }
+    let display = c.display;
+    let command = command_of(family, byte);
+    match command {
+        Command::Mode(code) => {
+            let mode = c.mode;
+            stays_moded(mode, code, display)
+        }
+        Command::Test => false,
+        Command::Setting(kind, step) => {
+            let data = c.data;
+            let stepping = c.stepping;
+            let count = c.count;
+            if !stays(data, data_number(kind)) {
+                return false;
+            }
+            if !stays(stepping, step_number(step)) {
+                return false;
+            }
+            stays(count, 0)
+        }
+        Command::AnySetting(_) => false,
+        Command::Control(level, shown) => {
+            let dimming = c.dimming;
+            if !stays(dimming, level) {
+                return false;
+            }
+            stays(display, display_number(shown))
+        }
+        Command::Start(_) => {
+            let address = c.address;
+            let Pointing::Unknown = address else {
+                return false;
+            };
+            true
+        }
+    }
+}
+
+// As data the byte goes to the LED, which has what it says, or nowhere.
+fn stays_lit(family: Family, c: Control, byte: u8) -> bool
+    ensures { λ r. ⌜ (r ≡ true → Quiet family byte c) ⌝ }
+{
+    let data = c.data;
+    let Standing::Known(to) = data else {
+        return false;
+    };
+    match to {
+        WRITE_DISPLAY => false,
+        WRITE_LED => {
+            let led = c.led;
+            both_lamps(led, put_byte(FOUR, led, byte)) == led
+        }
+        _ => true,
+    }
+}
+
+// A mode command changes nothing: the mode is that one, or the mode is unknown and so is the display, or it is off.
+fn stays_moded(mode: Standing, code: u8, display: Standing) -> bool
+    ensures { λ r. ⌜ (r ≡ true → StaysModed (stands mode) code (stands display)) ⌝ }
+{
+    match mode {
+        Standing::Known(old) => old == code,
+        Standing::Unknown => stays(display, OFF),
+    }
+}
+
+// The fact is unknown, or it is v.
+fn stays(s: Standing, v: u8) -> bool
+    ensures { λ r. ⌜ (r ≡ true → stands s ≡ join (stands s) (known v)) ⌝ }
+{
+    match s {
+        Standing::Known(w) => w == v,
+        Standing::Unknown => true,
+    }
 }

@@ -37,7 +37,7 @@ use Rattle.segment_steps.specs.Step.{Steps, keptOf, forgottenOf}
 use Rattle.segment_known.specs.declared.everyday.Target.{Target}
 use Rattle.segment_known.specs.Everyday.{Hits, lights-in, drifts-lit, drifts-at, lost-deaf}
 use Rattle.segment_known.specs.Ways.{mode-small}
-use Rattle.segment_everyday.specs.Arms.{GoesOn, goes-on, goes-as, Together, takes, fell, rose, lost, took, ordered, sets-by, tests-by, byte-is, passes, stores, met-together, none-together, roam, drift-on}
+use Rattle.segment_everyday.specs.Arms.{GoesOn, goes-on, goes-as, Together, takes, fell, rose, lost, took, ordered, sets-by, tests-by, byte-is, passes, stays, stores, met-together, none-together, roam, drift-on}
 use Rattle.segment_everyday.proofs.everyday_walk.Statement.{statement}
 use Rattle.segment_everyday.proofs.everyday_walk.Tie as tie
 
@@ -447,26 +447,43 @@ loop-again-12 c = let a = c .before .before .before .before .before .before .bef
     let at = c .before .before .before .before .before .before .before .before .before .before .before .before .before .before .loop in
     goes-on (at .inv) (omega arith) (c .passed3 .ensures .1 .fits) (at .inv .size) (λ part first. passes part (a .family) (a .bytes .now) first (at .i) _ (at .cells) (at .control) (c .passed3 .ensures .1) (lost-deaf (a .family) (at .control) (held (at .cells)) (c .before .before .before .before .before .nothing-left .ensures (c .before .before .before .before .if3 .taken)) (λ j k. c .before .before .none-known3 .ensures (c .before .if4 .taken) 8 j k)))
 
+still-requires : tie.Need-still-requires Inv-loop μ-loop
+still-requires c κs = search needs
+
+mul-i-7 : tie.Need-mul-i-7 Inv-loop μ-loop
+mul-i-7 c = record { fits = omega (arith, c .before .still .ensures .run .fits, c .before .before .before .before .before .before .before .before .before .before .before .before .before .before .before .before .good .1 .1 .1 .0) }
+
+add-i-13 : tie.Need-add-i-13 Inv-loop μ-loop
+add-i-13 c = record { fits = omega (arith, c .before .still .ensures .run .fits, c .before .before .before .before .before .before .before .before .before .before .before .before .before .before .before .before .good .1 .1 .1 .0) }
+
+loop-less-13 : tie.Need-loop-less-13 Inv-loop μ-loop
+loop-less-13 c = omega (arith, c .before .still .ensures .run .fits, c .if5 .taken)
+
+loop-again-13 : tie.Need-loop-again-13 Inv-loop μ-loop
+loop-again-13 c = let a = c .before .before .before .before .before .before .before .before .before .before .before .before .before .before .before .before .args in
+    let at = c .before .before .before .before .before .before .before .before .before .before .before .before .loop in
+    goes-on (at .inv) (omega arith) (c .before .still .ensures .run .fits) (at .inv .size) (λ part first. stays part (a .family) (a .bytes .now) first (at .i) _ (at .cells) (at .control) (c .before .still .ensures))
+
 taken-requires : tie.Need-taken-requires Inv-loop μ-loop
 taken-requires c κs = search needs
 
-add-i-13 : tie.Need-add-i-13 Inv-loop μ-loop
-add-i-13 c = let a = c .before .before .before .before .before .before .before .before .before .before .before .before .before .before .before .before .before .before .args in
-    let at = c .before .before .before .before .before .before .before .before .before .before .before .before .before .before .loop in
-    let there = shown-as (a .bytes .now) (at .i) (c .before .before .before .before .before .before .before .before .before .before .record2 .given .1) (c .before .before .before .before .before .before .before .before .before .before .before .before .everyday-at .ensures) .there in
-    record { fits = omega (arith, there, c .before .before .before .before .before .before .before .before .before .before .before .before .before .before .before .before .before .before .good .1 .1 .1 .0) }
+add-i-14 : tie.Need-add-i-14 Inv-loop μ-loop
+add-i-14 c = let a = c .before .before .before .before .before .before .before .before .before .before .before .before .before .before .before .before .before .before .before .before .args in
+    let at = c .before .before .before .before .before .before .before .before .before .before .before .before .before .before .before .before .loop in
+    let there = shown-as (a .bytes .now) (at .i) (c .before .before .before .before .before .before .before .before .before .before .before .before .record2 .given .1) (c .before .before .before .before .before .before .before .before .before .before .before .before .before .before .everyday-at .ensures) .there in
+    record { fits = omega (arith, there, c .before .before .before .before .before .before .before .before .before .before .before .before .before .before .before .before .before .before .before .before .good .1 .1 .1 .0) }
 
-loop-less-13 : tie.Need-loop-less-13 Inv-loop μ-loop
-loop-less-13 c = let a = c .before .before .before .before .before .before .before .before .before .before .before .before .before .before .before .before .before .before .args in
-    let at = c .before .before .before .before .before .before .before .before .before .before .before .before .before .before .loop in
-    let there = shown-as (a .bytes .now) (at .i) (c .before .before .before .before .before .before .before .before .before .before .record2 .given .1) (c .before .before .before .before .before .before .before .before .before .before .before .before .everyday-at .ensures) .there in
+loop-less-14 : tie.Need-loop-less-14 Inv-loop μ-loop
+loop-less-14 c = let a = c .before .before .before .before .before .before .before .before .before .before .before .before .before .before .before .before .before .before .before .before .args in
+    let at = c .before .before .before .before .before .before .before .before .before .before .before .before .before .before .before .before .loop in
+    let there = shown-as (a .bytes .now) (at .i) (c .before .before .before .before .before .before .before .before .before .before .before .before .record2 .given .1) (c .before .before .before .before .before .before .before .before .before .before .before .before .before .before .everyday-at .ensures) .there in
     omega (arith, there)
 
-loop-again-13 : tie.Need-loop-again-13 Inv-loop μ-loop
-loop-again-13 c = let a = c .before .before .before .before .before .before .before .before .before .before .before .before .before .before .before .before .before .before .args in
-    let at = c .before .before .before .before .before .before .before .before .before .before .before .before .before .before .loop in
-    let b = shown-as (a .bytes .now) (at .i) (c .before .before .before .before .before .before .before .before .before .before .record2 .given .1) (c .before .before .before .before .before .before .before .before .before .before .before .before .everyday-at .ensures) in
-    goes-on (at .inv) (omega arith) (omega (arith, b .there)) (c .before .cells6 .given ∙ at .inv .size) (λ part first. takes part (a .family) (a .bytes .now) first (at .i) 2 (ByteIn (c .before .before .before .before .before .before .before .before .before .before .record2 .given .0 .0)) (at .cells) _ (at .control) _ (omega (arith, b .there)) (byte-is part (a .bytes .now) (at .i) _ b) (c .before .cells6 .given ∙ at .inv .size) (c .before .before .taken .ensures))
+loop-again-14 : tie.Need-loop-again-14 Inv-loop μ-loop
+loop-again-14 c = let a = c .before .before .before .before .before .before .before .before .before .before .before .before .before .before .before .before .before .before .before .before .args in
+    let at = c .before .before .before .before .before .before .before .before .before .before .before .before .before .before .before .before .loop in
+    let b = shown-as (a .bytes .now) (at .i) (c .before .before .before .before .before .before .before .before .before .before .before .before .record2 .given .1) (c .before .before .before .before .before .before .before .before .before .before .before .before .before .before .everyday-at .ensures) in
+    goes-on (at .inv) (omega arith) (omega (arith, b .there)) (c .before .cells6 .given ∙ at .inv .size) (λ part first. takes part (a .family) (a .bytes .now) first (at .i) 2 (ByteIn (c .before .before .before .before .before .before .before .before .before .before .before .before .record2 .given .0 .0)) (at .cells) _ (at .control) _ (omega (arith, b .there)) (byte-is part (a .bytes .now) (at .i) _ b) (c .before .cells6 .given ∙ at .inv .size) (c .before .before .taken .ensures))
 
 enum-told-10 : tie.Need-enum-told-10 Inv-loop μ-loop
 enum-told-10 c = search needs
@@ -477,14 +494,14 @@ no-control-requires c κs = search needs
 forget-requires-2 : tie.Need-forget-requires-2 Inv-loop μ-loop
 forget-requires-2 c κs = search needs
 
-add-i-14 : tie.Need-add-i-14 Inv-loop μ-loop
-add-i-14 c = record { fits = omega (arith, c .before .before .before .before .before .before .before .before .loop-test .taken, c .before .before .before .before .before .before .before .before .before .before .before .before .before .good .1 .1 .1 .0) }
+add-i-15 : tie.Need-add-i-15 Inv-loop μ-loop
+add-i-15 c = record { fits = omega (arith, c .before .before .before .before .before .before .before .before .loop-test .taken, c .before .before .before .before .before .before .before .before .before .before .before .before .before .good .1 .1 .1 .0) }
 
-loop-less-14 : tie.Need-loop-less-14 Inv-loop μ-loop
-loop-less-14 c = omega (arith, c .before .before .before .before .before .before .before .before .loop-test .taken)
+loop-less-15 : tie.Need-loop-less-15 Inv-loop μ-loop
+loop-less-15 c = omega (arith, c .before .before .before .before .before .before .before .before .loop-test .taken)
 
-loop-again-14 : tie.Need-loop-again-14 Inv-loop μ-loop
-loop-again-14 c = let a = c .before .before .before .before .before .before .before .before .before .before .before .before .before .args in
+loop-again-15 : tie.Need-loop-again-15 Inv-loop μ-loop
+loop-again-15 c = let a = c .before .before .before .before .before .before .before .before .before .before .before .before .before .args in
     let at = c .before .before .before .before .before .before .before .before .before .loop in
     goes-on (at .inv) (omega arith) (omega (arith, c .before .before .before .before .before .before .before .before .loop-test .taken)) (c .before .cells7 .given ∙ at .inv .size) (λ part first. lost part (a .family) (a .bytes .now) first (at .i) (at .cells) _ (at .control) _ (c .before .before .before .before .before .before .before .before .loop-test .taken) (shown-as (a .bytes .now) (at .i) (c .before .before .before .before .before .enum-told10 .given .1) (c .before .before .before .before .before .before .before .everyday-at .ensures)) (c .before .cells7 .given ∙ at .inv .size) (λ j k. c .before .before .forget2 .ensures 8 j k) (c .before .before .before .before .no-control .ensures))
 
@@ -606,16 +623,21 @@ everyday-walk-spec =
     add-i-12
     loop-less-12
     loop-again-12
-    taken-requires
+    still-requires
+    mul-i-7
     add-i-13
     loop-less-13
     loop-again-13
-    enum-told-10
-    no-control-requires
-    forget-requires-2
+    taken-requires
     add-i-14
     loop-less-14
     loop-again-14
+    enum-told-10
+    no-control-requires
+    forget-requires-2
+    add-i-15
+    loop-less-15
+    loop-again-15
     enum-told-11
     same-length
     returns

@@ -5,10 +5,8 @@ use Rattle.standing.specs.View.{stands}
 use Rattle.segment.specs.Fact.{dataMode}
 use Rattle.segment.specs.Family.{sizes}
 use Rattle.segment.specs.Move.{written}
-use Rattle.segment_steps.specs.StepLaws.{as-steps, kept-steps}
 use Rattle.segment_steps.specs.StepWays.{step-known}
-use Rattle.segment_known.specs.Ways.{other-written}
-use Rattle.segment_known.specs.Writes.{placed, lit-told}
+use Rattle.segment_known.specs.Writes.{placed, writes-led, writes-none}
 use borrow.Author.Needs.{needs}
 use Rattle.segment_known.proofs.bytes.data_in.Statement.{statement}
 use Rattle.segment_known.proofs.bytes.data_in.Tie as tie
@@ -38,13 +36,11 @@ returns-2 c = let a = c .before .before .before .before .before .args in
 
 returns-3 : tie.Need-returns-3
 returns-3 c = let a = c .before .before .before .before .before .args in
-    let s = sizes (a .family) in
-    λ q. step-known s dataMode (written s (a .byte)) (placed (a .c) q) 1 (λ cells. ap stands (c .before .before .before .«data» .given .1) ∙ ap known (c .before .match2 .keys2)) (kept-steps refl (λ cells. lit-told (placed (a .c) q) (a .byte) _ (c .put-byte .ensures) cells))
+    writes-led (sizes (a .family)) (a .c) (a .byte) _ (ap stands (c .before .before .before .«data» .given .1) ∙ ap known (c .before .match2 .keys2)) (c .put-byte .ensures)
 
 returns-4 : tie.Need-returns-4
 returns-4 c = let a = c .before .before .before .before .args in
-    let s = sizes (a .family) in
-    λ q. step-known s dataMode (written s (a .byte)) (placed (a .c) q) _ (λ cells. ap stands (c .before .before .«data» .given .1)) (as-steps (other-written _ _ _ (c .match2 .rest .0 .1) (c .match2 .rest .1)) (kept-steps refl (λ cells f. refl)))
+    writes-none (sizes (a .family)) (a .c) (a .byte) _ (ap stands (c .before .before .«data» .given .1)) (c .match2 .rest .0 .1) (c .match2 .rest .1)
 
 pub data-in-spec : {M : Type 1} → statement M
 data-in-spec =
