@@ -2,6 +2,7 @@
 use segment::Family;
 use segment_knowledge::Control;
 use segment_known::unmoved;
+use standing::Standing;
 use terms::Place;
 ghost use Prim.Native.Nat.{_≤_};
 ghost use lib.ListN.{length};
@@ -12,6 +13,10 @@ pub fn still(family: Family, c: Control, bytes: &[u8], at: Place) -> usize
     requires { ⌜ at .0 ≤ length (now bytes) ⌝ }
     ensures { λ r. ⌜ Stills family c (now (bytes .entry)) (at .0) r ⌝ }
 {
+    let position = c.position;
+    let Standing::Unknown = position else {
+        return 0;
+    };
     let from = at.0;
     let most = (bytes.len() - from) / 2;
     let mut j = 0;

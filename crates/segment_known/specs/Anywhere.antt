@@ -223,10 +223,6 @@ module _ (p : Family) (b : ℕ) (c : Control) (u : stands (c .position) ≡ unkn
       let dark = displayIn (stands (c .mode)) n (stands (c .display)) in
       perhaps-mode p b c u (q .next) (q .data-in) Keep (c .address) (c .led) (q .kept) (q .pointed) (q .lit) n (said dark) (c .mode) (c .display) is (said-so dark) (h .0) (h .1 ∙ ap (join (stands (c .display))) (sym (said-so dark)))
 
-  pub unmoved-setting : (d : Data) (i : Stepping) → Setting d i ≡ commandOf (sizes p) b → stands (c .«data») ≡ join (stands (c .«data»)) (known (data-mode d)) → stands (c .stepping) ≡ join (stands (c .stepping)) (known (steps i))
-      → stands (c .count) ≡ join (stands (c .count)) (known 0) → Steps (sizes p) (look position (byteIn (sizes p) b)) c (keptOf c)
-  unmoved-setting d i is = perhaps-setting p b c u (q .next) (q .data-in) Keep (c .address) (c .led) (q .kept) (q .pointed) (q .lit) d i (c .«data») (c .stepping) (c .count) is
-
   pub unmoved-control : (n : ℕ) (o : Display) → Controls n o ≡ commandOf (sizes p) b → stands (c .dimming) ≡ join (stands (c .dimming)) (known n) → stands (c .display) ≡ join (stands (c .display)) (known (shows o))
       → Steps (sizes p) (look position (byteIn (sizes p) b)) c (keptOf c)
   unmoved-control n o is = perhaps-control p b c u (q .next) (q .data-in) Keep (c .address) (c .led) (q .kept) (q .pointed) (q .lit) n o (c .dimming) (c .display) is

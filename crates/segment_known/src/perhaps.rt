@@ -108,15 +108,12 @@ fn perhaps(s: Standing, v: u8) -> Standing
     both_standing(s, Standing::Known(v))
 }
 
-// At an unknown position this byte changes nothing that is known: as data it leaves all as it is, and what it would set as a command is unknown or has that value already. Where it may forget more, it
-// counts as one that changes something.
+// At an unknown position this byte changes nothing that is known: as data it leaves all as it is, and what it would set as a command is unknown or has that value already. A data setting, and what may
+// forget more, counts as one that changes something.
 pub fn unmoved(family: Family, c: Control, byte: u8) -> bool
+    requires { ⌜ stands (c .position) ≡ unknown ⌝ }
     ensures { λ r. ⌜ (r ≡ true → Steps (sizes family) (look position (byteIn (sizes family) byte)) c (keptOf c)) ⌝ }
 {
-    let position = c.position;
-    let Standing::Unknown = position else {
-        return false;
-    };
     if !stays_lit(family, c, byte) {
         return false;
     }
@@ -128,18 +125,7 @@ pub fn unmoved(family: Family, c: Control, byte: u8) -> bool
             stays_moded(mode, code, display)
         }
         Command::Test => false,
-        Command::Setting(kind, step) => {
-            let data = c.data;
-            let stepping = c.stepping;
-            let count = c.count;
-            if !stays(data, data_number(kind)) {
-                return false;
-            }
-            if !stays(stepping, step_number(step)) {
-                return false;
-            }
-            stays(count, 0)
-        }
+        Command::Setting(_, _) => false,
         Command::AnySetting(_) => false,
         Command::Control(level, shown) => {
             let dimming = c.dimming;
