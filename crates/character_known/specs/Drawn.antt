@@ -226,3 +226,11 @@ module _ (b : ℕ) (k : Fact → Standing) where
 
     pub places-at : unknown ≡ common 8 (outer cgramAt)
     places-at = sym (common-same 8 (outer cgramAt) unknown (omega arith) (λ w h. columns-at b w (learn same? cgramAt w k) (lost w) (learn-here same? k cgramAt w)))
+
+-- The column goes on to the next, whatever the character.
+pub column-next : (b : ℕ) (k : Fact → Standing) (c : ℕ) → k column ≡ known c → known ((c % 5 + 1) % 5) ≡ know same? range (look cgramAt (λ a. look column (drawn b a))) k column
+column-next b k c e = go (k cgramAt) refl
+  where
+    go : (t : Standing) → k cgramAt ≡ t → known ((c % 5 + 1) % 5) ≡ know same? range (look cgramAt (λ a. look column (drawn b a))) k column
+    go (known a) p = look-known same? range cgramAt (λ a. look column (drawn b a)) k column a _ p (look-known same? range column (drawn b a) k column c _ e (sym (drawn-column b a c k)))
+    go unknown p = look-unknown same? range cgramAt (λ a. look column (drawn b a)) k column _ p (characters-column b k c e)

@@ -1,3 +1,4 @@
+pub mod Weakened
 pub mod Anywhere
 pub mod Row
 pub mod Cells

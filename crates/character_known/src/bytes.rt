@@ -1,4 +1,5 @@
 // What a byte clocked in makes of a knowledge.
+use crate::anywhere::in_anywhere;
 use crate::columns::to_draw;
 use crate::commanded::first_in;
 use crate::stored::marked_by;
@@ -10,19 +11,13 @@ use character_knowledge::Control;
 use character_knowledge::DCRAM;
 use character_knowledge::FIRST;
 use character_knowledge::Pointing;
-use character_knowledge::at;
 use character_steps::Step;
-use character_steps::both_steps;
 use character_steps::kept;
 use standing::Standing;
 use terms::Address;
-ghost use mathlib.Core.Path.{_≡_};
 ghost use Rattle.rules.specs.Rule.{look};
-ghost use Rattle.knowing.specs.Standing.{unknown};
 ghost use Rattle.character.specs.Fact.{position, dcramAt, adramAt};
 ghost use Rattle.character.specs.Move.{shown, marked, byteIn};
-ghost use Rattle.standing.specs.View.{stands};
-ghost use Rattle.changes.specs.Change.{Plain};
 ghost use Rattle.character_steps.specs.Step.{Steps};
 
 pub fn byte_in(c: Control, byte: u8) -> Step
@@ -41,23 +36,9 @@ pub fn byte_in(c: Control, byte: u8) -> Step
     }
 }
 
-// At an unknown position the byte may be a command, go to any RAM, or do nothing. The two ways that do nothing, idle and ignoring, have in common all that
-// is known, with the position unknown as it is, and so count as one.
-fn in_anywhere(c: Control, byte: u8) -> Step
-    requires { ⌜ stands (c .position) ≡ unknown ⌝ }
-    ensures { λ r. ⌜ Steps (look position (byteIn byte)) c r ⌝ }
-{
-    let first = first_in(at(c, FIRST), byte);
-    let dcram = to_show(at(c, DCRAM), byte);
-    let cgram = to_draw(at(c, CGRAM), byte);
-    let adram = to_mark(at(c, ADRAM), byte);
-    let commanded = both_steps(kept(c), first);
-    both_steps(both_steps(both_steps(commanded, dcram), cgram), adram)
-}
-
 // A byte goes to DCRAM, and the other RAMs stay.
 fn to_show(mut c: Control, byte: u8) -> Step
-    ensures { λ r. ⌜ (Steps (look dcramAt (shown byte)) c r) × ((Plain (r .cgram)) × (Plain (r .adram))) ⌝ }
+    ensures { λ r. ⌜ Steps (look dcramAt (shown byte)) c r ⌝ }
 {
     let to = c.dcram_at;
     let dcram = match to {
@@ -78,7 +59,7 @@ fn to_show(mut c: Control, byte: u8) -> Step
 
 // A pair of bits goes to ADRAM, and the other RAMs stay. The change carries the byte as it comes: the row takes two bits of it.
 fn to_mark(mut c: Control, byte: u8) -> Step
-    ensures { λ r. ⌜ (Steps (look adramAt (marked byte)) c r) × ((Plain (r .dcram)) × (Plain (r .cgram))) ⌝ }
+    ensures { λ r. ⌜ Steps (look adramAt (marked byte)) c r ⌝ }
 {
     let to = c.adram_at;
     let adram = match to {

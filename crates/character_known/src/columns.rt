@@ -11,14 +11,12 @@ ghost use Rattle.rules.specs.Rule.{look};
 ghost use Rattle.knowing.specs.Standing.{known, unknown};
 ghost use Rattle.character.specs.Fact.{cgramAt, column};
 ghost use Rattle.character.specs.Move.{drawn};
-ghost use Rattle.standing.specs.View.{stands};
-ghost use Rattle.changes.specs.Change.{Plain};
 ghost use Rattle.character_knowledge.specs.View.{points};
 ghost use Rattle.character_steps.specs.Step.{Steps};
 ghost use Rattle.character_known.specs.Places.{placed};
 
 pub fn to_draw(c: Control, byte: u8) -> Step
-    ensures { λ r. ⌜ (Steps (look cgramAt (λ a. look column (drawn byte a))) c r) × ((Plain (r .dcram)) × (Plain (r .adram))) ⌝ }
+    ensures { λ r. ⌜ Steps (look cgramAt (λ a. look column (drawn byte a))) c r ⌝ }
 {
     let to = c.cgram_at;
     match to {
@@ -30,7 +28,7 @@ pub fn to_draw(c: Control, byte: u8) -> Step
 // The character is known. Where the column is too, the next one follows, of this character or of the one behind it.
 fn draw_in(mut c: Control, byte: u8, address: Address) -> Step
     requires { ⌜ points (c .«cgram_at») ≡ known (address .0) ⌝ }
-    ensures { λ r. ⌜ (Steps (look column (drawn byte (address .0))) c r) × ((Plain (r .dcram)) × (Plain (r .adram))) ⌝ }
+    ensures { λ r. ⌜ Steps (look column (drawn byte (address .0))) c r ⌝ }
 {
     let character = address.0 % 8;
     let column = c.column;
@@ -61,7 +59,7 @@ fn draw_in(mut c: Control, byte: u8, address: Address) -> Step
 // The character is unknown, and stays so.
 fn draw_anywhere(mut c: Control, byte: u8) -> Step
     requires { ⌜ points (c .«cgram_at») ≡ unknown ⌝ }
-    ensures { λ r. ⌜ (Steps (look cgramAt (λ a. look column (drawn byte a))) c r) × ((Plain (r .dcram)) × (Plain (r .adram))) ⌝ }
+    ensures { λ r. ⌜ Steps (look cgramAt (λ a. look column (drawn byte a))) c r ⌝ }
 {
     let column = c.column;
     let cgram = match column {

@@ -25,11 +25,10 @@ ghost use Rattle.rules.specs.Rule.{gives};
 ghost use Rattle.character.specs.Command.{commandOf};
 ghost use Rattle.character.specs.Move.{commanded};
 ghost use Rattle.character.specs.Value.{lit};
-ghost use Rattle.character_steps.specs.Step.{Keeps, Forgets, Steps, AllPlain};
+ghost use Rattle.character_steps.specs.Step.{Keeps, Forgets, Steps};
 
-// Every RAM stays, or an undefined command leaves nothing known of any.
 pub fn first_in(mut c: Control, byte: u8) -> Step
-    ensures { λ r. ⌜ (Steps (gives (commanded (commandOf byte))) c r) × (AllPlain r) ⌝ }
+    ensures { λ r. ⌜ Steps (gives (commanded (commandOf byte))) c r ⌝ }
 {
     let command = command_of(byte);
     match command {
@@ -137,7 +136,7 @@ pub fn undefined_in() -> Control
     at(no_control(), IGNORING)
 }
 
-fn lights_number(lights: Lights) -> u8
+pub fn lights_number(lights: Lights) -> u8
     ensures { λ r. ⌜ r ≡ lit lights ⌝ }
 {
     match lights {

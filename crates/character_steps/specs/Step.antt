@@ -1,11 +1,10 @@
 -- What an event makes of a knowledge, told in two: the facts beside the memory, and what happens to each RAM.
-use mathlib.Core.Path.{_≡_}
 use Rattle.rules.specs.Rule.{Rule}
 use Rattle.knowing.specs.Standing.{Standing}
 use Rattle.knowing.specs.Steps as Of
 use Rattle.knowing.specs.Ways as Ways
 use Rattle.changes.specs.declared.change.Change.the-variants.{Keep, Forget}
-use Rattle.changes.specs.Change.{seen, Inside, joined, Plain}
+use Rattle.changes.specs.Change.{seen, Inside}
 use Rattle.character.specs.Fact.{Fact, same?, range, textBits, columnBits, pairBits}
 use Rattle.character_knowledge.specs.declared.control.Control.{Control}
 use Rattle.character_knowledge.specs.View.{Memory, blank, cview}
@@ -43,14 +42,3 @@ keptOf c = record { control = c; dcram = Keep; cgram = Keep; adram = Keep }
 
 abbrev pub forgottenOf : Control → Step
 forgottenOf c = record { control = c; dcram = Forget; cgram = Forget; adram = Forget }
-
--- The step r has in common what a and b have.
-pub record Both (a b r : Step) : Type 0 where
-  pub control : (m : Memory) → Ways.Joins (cview m) (a .control) (b .control) (r .control)
-  pub dcram : r .dcram ≡ joined (a .dcram) (b .dcram)
-  pub cgram : r .cgram ≡ joined (a .cgram) (b .cgram)
-  pub adram : r .adram ≡ joined (a .adram) (b .adram)
-
--- Each RAM stays or is forgotten.
-abbrev pub AllPlain : Step → Type 0
-AllPlain r = Plain (r .dcram) × (Plain (r .cgram) × Plain (r .adram))

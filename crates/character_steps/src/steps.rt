@@ -1,12 +1,10 @@
 // What an event does, as a small value: all that is known beside the memory, and a change for each RAM.
-use crate::join::both;
 use changes::Change;
-use changes::both_changes;
 use character_knowledge::Control;
 use character_knowledge::no_control;
 ghost use mathlib.Core.Path.{_≡_};
 ghost use Rattle.rules.specs.Rule.{gives, free};
-ghost use Rattle.character_steps.specs.Step.{keptOf, forgottenOf, Both, Steps};
+ghost use Rattle.character_steps.specs.Step.{keptOf, forgottenOf, Steps};
 
 pub struct Step {
     pub control: Control,
@@ -36,30 +34,6 @@ pub fn forgotten(control: Control) -> Step
         dcram: Change::Forget,
         cgram: Change::Forget,
         adram: Change::Forget,
-    }
-}
-
-// What two steps have in common.
-pub fn both_steps(a: Step, b: Step) -> Step
-    ensures { λ r. ⌜ Both a b r ⌝ }
-{
-    let a_control = a.control;
-    let b_control = b.control;
-    let control = both(a_control, b_control);
-    let a_dcram = a.dcram;
-    let b_dcram = b.dcram;
-    let dcram = both_changes(a_dcram, b_dcram);
-    let a_cgram = a.cgram;
-    let b_cgram = b.cgram;
-    let cgram = both_changes(a_cgram, b_cgram);
-    let a_adram = a.adram;
-    let b_adram = b.adram;
-    let adram = both_changes(a_adram, b_adram);
-    Step {
-        control,
-        dcram,
-        cgram,
-        adram,
     }
 }
 

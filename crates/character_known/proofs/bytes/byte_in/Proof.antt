@@ -37,19 +37,19 @@ in-anywhere-requires c κs = search needs
 
 returns : tie.Need-returns
 returns c = let a = c .before .before .before .before .before .args in
-    known-step position (byteIn (a .byte)) (a .c) _ 1 (λ m. ap stands (c .before .before .before .position .given .1) ∙ ap known (c .before .match2 .keys1)) (c .first-in .ensures .0)
+    known-step position (byteIn (a .byte)) (a .c) _ 1 (λ m. ap stands (c .before .before .before .position .given .1) ∙ ap known (c .before .match2 .keys1)) (c .first-in .ensures)
 
 returns-2 : tie.Need-returns-2
 returns-2 c = let a = c .before .before .before .before .before .args in
-    known-step position (byteIn (a .byte)) (a .c) _ 2 (λ m. ap stands (c .before .before .before .position .given .1) ∙ ap known (c .before .match2 .keys2)) (c .to-show .ensures .0)
+    known-step position (byteIn (a .byte)) (a .c) _ 2 (λ m. ap stands (c .before .before .before .position .given .1) ∙ ap known (c .before .match2 .keys2)) (c .to-show .ensures)
 
 returns-3 : tie.Need-returns-3
 returns-3 c = let a = c .before .before .before .before .before .args in
-    known-step position (byteIn (a .byte)) (a .c) _ 3 (λ m. ap stands (c .before .before .before .position .given .1) ∙ ap known (c .before .match2 .keys3)) (c .to-draw .ensures .0)
+    known-step position (byteIn (a .byte)) (a .c) _ 3 (λ m. ap stands (c .before .before .before .position .given .1) ∙ ap known (c .before .match2 .keys3)) (c .to-draw .ensures)
 
 returns-4 : tie.Need-returns-4
 returns-4 c = let a = c .before .before .before .before .before .args in
-    known-step position (byteIn (a .byte)) (a .c) _ 4 (λ m. ap stands (c .before .before .before .position .given .1) ∙ ap known (c .before .match2 .keys4)) (c .to-mark .ensures .0)
+    known-step position (byteIn (a .byte)) (a .c) _ 4 (λ m. ap stands (c .before .before .before .position .given .1) ∙ ap known (c .before .match2 .keys4)) (c .to-mark .ensures)
 
 returns-5 : tie.Need-returns-5
 returns-5 c = let a = c .before .before .before .before .before .args in

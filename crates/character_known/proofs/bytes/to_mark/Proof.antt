@@ -23,10 +23,10 @@ enum-told c = search needs
 
 returns : tie.Need-returns
 returns c = let a = c .before .before .before .before .before .args in
-    (as-changed pairs (c .marked-by .ensures) refl (known-step adramAt (marked (a .byte)) (a .c) _ _ (λ m. ap points (c .before .before .before .to .given .1)) (marked-at (a .byte) (a .c) _)), (tt, tt))
+    as-changed pairs (c .marked-by .ensures) refl (known-step adramAt (marked (a .byte)) (a .c) _ _ (λ m. ap points (c .before .before .before .to .given .1)) (marked-at (a .byte) (a .c) _))
 
 returns-2 : tie.Need-returns-2
-returns-2 c = (open-step (c .before .before .args .byte) pairs (ap points (c .enum-told .given .1)), (tt, tt))
+returns-2 c = open-step (c .before .before .args .byte) pairs (ap points (c .enum-told .given .1))
 
 pub to-mark-spec : {M : Type 1} → statement M
 to-mark-spec = tie.close (tie.spec enum-known-to marked-by-requires enum-told returns returns-2)

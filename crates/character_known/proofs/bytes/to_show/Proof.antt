@@ -23,10 +23,10 @@ enum-told c = search needs
 
 returns : tie.Need-returns
 returns c = let a = c .before .before .before .before .before .args in
-    (as-changed text (c .shown-by .ensures) refl (known-step dcramAt (shown (a .byte)) (a .c) _ _ (λ m. ap points (c .before .before .before .to .given .1)) (shown-at (a .byte) (a .c) _)), (tt, tt))
+    as-changed text (c .shown-by .ensures) refl (known-step dcramAt (shown (a .byte)) (a .c) _ _ (λ m. ap points (c .before .before .before .to .given .1)) (shown-at (a .byte) (a .c) _))
 
 returns-2 : tie.Need-returns-2
-returns-2 c = (open-step (c .before .before .args .byte) text (ap points (c .enum-told .given .1)), (tt, tt))
+returns-2 c = open-step (c .before .before .args .byte) text (ap points (c .enum-told .given .1))
 
 pub to-show-spec : {M : Type 1} → statement M
 to-show-spec = tie.close (tie.spec enum-known-to shown-by-requires enum-told returns returns-2)

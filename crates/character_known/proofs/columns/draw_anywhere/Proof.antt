@@ -23,10 +23,10 @@ enum-told c = search needs
 
 returns : tie.Need-returns
 returns c = let s = c .before .before .before .before in
-    (as-changed columns (c .drawing .ensures) refl (character-step (s .args .byte) (s .args .c) _ (s .pre) (ap stands (c .before .before .column .given .1))), (tt, tt))
+    as-changed columns (c .drawing .ensures) refl (character-step (s .args .byte) (s .args .c) _ (s .pre) (ap stands (c .before .before .column .given .1)))
 
 returns-2 : tie.Need-returns-2
-returns-2 c = (open-step (c .before .before .args .byte) columns (c .before .before .pre, ap stands (c .enum-told .given .1)), (tt, tt))
+returns-2 c = open-step (c .before .before .args .byte) columns (c .before .before .pre, ap stands (c .enum-told .given .1))
 
 pub draw-anywhere-spec : {M : Type 1} → statement M
 draw-anywhere-spec =

@@ -43,17 +43,15 @@ mul-t20 c = search needs
 returns : tie.Need-returns
 returns c = let s = c .before .before .before .before .before .before in
     let a = s .args in
-    let to = c .before .if1 .to in (
-      as-changed columns (c .drawing .ensures) refl
-          (known-step column (drawn (a .byte) (a .address .0)) (a .c) _ _ (λ m. ap stands (c .before .before .before .column .given .1))
-          (drawn-at (a .byte) (a .c) (a .address .0) _ to (s .pre) (λ q. ⊎-elim (λ w. omega arith) (λ w. omega arith) (c .before .if1 .came)) (λ q. ⊎-elim (λ w. omega arith) (λ w. omega arith) (c .before .if1 .came)))),
-      (tt, tt),
-    )
+    let to = c .before .if1 .to in
+    as-changed columns (c .drawing .ensures) refl
+    (known-step column (drawn (a .byte) (a .address .0)) (a .c) _ _ (λ m. ap stands (c .before .before .before .column .given .1))
+    (drawn-at (a .byte) (a .c) (a .address .0) _ to (s .pre) (λ q. ⊎-elim (λ w. omega arith) (λ w. omega arith) (c .before .if1 .came)) (λ q. ⊎-elim (λ w. omega arith) (λ w. omega arith) (c .before .if1 .came))))
 
 returns-2 : tie.Need-returns-2
 returns-2 c = let s = c .before .before .before .before in
     let u = ap stands (c .before .enum-told .given .1) in
-    (as-changed columns (c .drawing2 .ensures) refl (column-step (s .args .byte) (s .args .c) (s .args .address .0) _ (s .pre) u u), (tt, tt))
+    as-changed columns (c .drawing2 .ensures) refl (column-step (s .args .byte) (s .args .c) (s .args .address .0) _ (s .pre) u u)
 
 pub draw-in-spec : {M : Type 1} → statement M
 draw-in-spec =

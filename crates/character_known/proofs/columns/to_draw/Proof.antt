@@ -24,7 +24,7 @@ draw-anywhere-requires c κs = ap points (c .enum-told .given .1)
 
 returns : tie.Need-returns
 returns c = let a = c .before .before .before .before .args in
-    (known-step cgramAt (λ x. look column (drawn (a .byte) x)) (a .c) _ _ (λ m. ap points (c .before .before .to .given .1)) (c .draw-in .ensures .0), c .draw-in .ensures .1)
+    known-step cgramAt (λ x. look column (drawn (a .byte) x)) (a .c) _ _ (λ m. ap points (c .before .before .to .given .1)) (c .draw-in .ensures)
 
 returns-2 : tie.Need-returns-2
 returns-2 c = search needs

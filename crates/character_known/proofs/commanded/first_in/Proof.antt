@@ -3,10 +3,9 @@
 use mathlib.Core.Path.{sym, ap, _∙_}
 use mathlib.Core.Logic.{⊎-elim}
 use Rattle.rules.specs.Rule.{gives}
-use Rattle.character.specs.Command.{commandOf}
 use Rattle.character.specs.Move.{commanded}
-use Rattle.character_steps.specs.Step.{Steps, keptOf}
-use Rattle.character_steps.specs.Steps.{kept-steps, forgotten-steps, kept-plain, forgotten-plain, same-rule}
+use Rattle.character_steps.specs.Step.{keptOf}
+use Rattle.character_steps.specs.Steps.{kept-steps, forgotten-steps, same-rule}
 use borrow.Author.Needs.{needs}
 use Rattle.character_known.proofs.commanded.first_in.Statement.{statement}
 use Rattle.character_known.proofs.commanded.first_in.Tie as tie
@@ -24,7 +23,7 @@ forgotten-requires : tie.Need-forgotten-requires
 forgotten-requires c κs = search needs
 
 returns : tie.Need-returns
-returns c = (same-rule (ap (λ x. gives (commanded x)) (sym (c .before .before .before .before .command-of .ensures) ∙ c .before .before .enum-told .given .1)) (forgotten-steps (c .forgotten .ensures) (c .before .undefined-in .ensures (c .before .before .before .before .before .args .c))), forgotten-plain (c .forgotten .ensures))
+returns c = same-rule (ap (λ x. gives (commanded x)) (sym (c .before .before .before .before .command-of .ensures) ∙ c .before .before .enum-told .given .1)) (forgotten-steps (c .forgotten .ensures) (c .before .undefined-in .ensures (c .before .before .before .before .before .args .c)))
 
 enum-known-command : tie.Need-enum-known-command
 enum-known-command c = search needs
@@ -78,9 +77,7 @@ kept-requires : tie.Need-kept-requires
 kept-requires c κs = search needs
 
 returns-2 : tie.Need-returns-2
-returns-2 c = let a = c .before .before .before .args in
-    let e = sym (c .before .before .command-of .ensures) in
-    let k : Steps (gives (commanded (commandOf (a .byte)))) (a .c) (c .kept .result) =
+returns-2 c = let e = sym (c .before .before .command-of .ensures) in
     ⊎-elim (λ w. same-rule (ap (λ x. gives (commanded x)) (e ∙ w .1 .given .1)) (kept-steps (c .kept .ensures ∙ ap keptOf (w .4)) (w .3 .ensures)))
     (⊎-elim (λ w. same-rule (ap (λ x. gives (commanded x)) (e ∙ w .1 .given .1)) (kept-steps (c .kept .ensures ∙ ap keptOf (w .4)) (w .3 .ensures)))
     (⊎-elim (λ w. same-rule (ap (λ x. gives (commanded x)) (e ∙ w .1 .given .1)) (kept-steps (c .kept .ensures ∙ ap keptOf (w .4)) (w .3 .ensures)))
@@ -89,8 +86,7 @@ returns-2 c = let a = c .before .before .before .args in
     (⊎-elim (λ w. same-rule (ap (λ x. gives (commanded x)) (e ∙ w .1 .given .1)) (kept-steps (c .kept .ensures ∙ ap keptOf (w .4)) (w .3 .ensures)))
     (⊎-elim (λ w. same-rule (ap (λ x. gives (commanded x)) (e ∙ w .1 .given .1)) (kept-steps (c .kept .ensures ∙ ap keptOf (w .4)) (w .3 .ensures)))
     (λ w. same-rule (ap (λ x. gives (commanded x)) (e ∙ w .1 .given .1)) (kept-steps (c .kept .ensures ∙ ap keptOf (w .3)) (w .2 .ensures)))))))))
-    (c .before .match .came) in
-    (k, kept-plain (c .kept .ensures))
+    (c .before .match .came)
 
 pub first-in-spec : {M : Type 1} → statement M
 first-in-spec =
