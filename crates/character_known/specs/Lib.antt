@@ -11,4 +11,5 @@ pub mod Lost
 pub mod Open
 pub mod Aimed
 pub mod Runs
+pub mod Drift
 pub mod Places

@@ -16,7 +16,7 @@ use Rattle.character_knowledge.specs.declared.control.Pointing.the-variants.{At
 use Rattle.character_knowledge.specs.View.{Memory, points}
 use Rattle.character_steps.specs.declared.steps.Step.{Step}
 use Rattle.character_known.specs.declared.astray.Astray.{Astray}
-use Rattle.character_known.specs.declared.astray.Astray.the-variants.{Shown, Drawn, Marked, Not}
+use Rattle.character_known.specs.declared.astray.Astray.the-variants.{Shown, Drawn, Marked, Anywhere, Not}
 
 -- DCRAM, CGRAM and ADRAM.
 pub data Ram : Type 0 where
@@ -95,10 +95,19 @@ pub record Roams (ram : Ram) (c : Control) : Type 0 where
   pub here : stands (c .position) ≡ known (at-position (place ram))
   pub unsure : Open ram c
 
+-- Or to any of any RAM, if it goes to one.
+pub record Adrift (c : Control) : Type 0 where
+  pub here : stands (c .position) ≡ unknown
+  pub shown : points (c .«dcram_at») ≡ unknown
+  pub drawn : points (c .«cgram_at») ≡ unknown
+  pub inside : stands (c .column) ≡ unknown
+  pub marked : points (c .«adram_at») ≡ unknown
+
 abbrev pub Gone : Control → Astray → Type 0
 Gone c Shown = Roams text c
 Gone c Drawn = Roams columns c
 Gone c Marked = Roams pairs c
+Gone c Anywhere = Adrift c
 Gone c Not = Unit
 
 -- Said of what is another, in name.

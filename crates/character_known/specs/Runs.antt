@@ -1,16 +1,13 @@
--- Runs of bytes to one RAM, over any of the three: bytes that are put in its cells one behind the other, and bytes of which each may have gone to any cell.
+-- Runs of bytes to one RAM, over any of the three, that are put in its cells one behind the other.
 -- Here m is what is known of the memory before the run and c what is known beside it; b j is byte j of the run. The argument: each byte makes its step of
 -- what the bytes before it have left, and the step says what is known behind it.
 use Prim.Native.Nat.{ℕ, suc, _+_, _<_, _≤_}
 use native.Mathlib.Omega.{arith}
 use mathlib.Core.Path.{_≡_, refl, sym, ap, _∙_, subst⁻¹}
-use mathlib.Core.Bool.{Bool, true, false}
-use Rattle.rules.specs.Choice.{whether, whether-all}
 use Rattle.knowing.specs.Standing.{Standing, known}
 use Rattle.knowing.specs.Know.{know}
-use Rattle.lamps.specs.View.{met}
 use Rattle.changes.specs.declared.change.Change.{Change}
-use Rattle.changes.specs.Change.{among, seen, storedRun, metRun}
+use Rattle.changes.specs.Change.{seen, storedRun}
 use Rattle.terms.specs.declared.Event.the-variants.{ByteIn}
 use Rattle.character.specs.Fact.{Fact, same?, range}
 use Rattle.character.specs.Laws.{every}
@@ -18,21 +15,14 @@ use Rattle.character.specs.Move.{move}
 use Rattle.character_knowledge.specs.declared.control.Control.{Control}
 use Rattle.character_knowledge.specs.View.{Memory, cview}
 use Rattle.character_steps.specs.Step.{sview, Steps}
-use Rattle.character_known.specs.Ram.{Ram, text, columns, pairs, cells, bits, aimed, Aims, Roams, changedIn, putIn, metIn, ofRam, withRam}
+use Rattle.character_known.specs.Ram.{Ram, text, columns, pairs, cells, bits, aimed, Aims, changedIn, putIn, ofRam, withRam}
 use Rattle.character_known.specs.Aimed.{aims-at, aims-step}
-use Rattle.character_known.specs.Open.{roams-step}
 
 -- What is known goes by what is known of each cell of the RAM.
 pub in-ram : (ram : Ram) (m : Memory) (u v : ℕ → ℕ → Standing) (c : Control) → ((i k : ℕ) → u i k ≡ v i k) → (f : Fact) → cview (withRam ram u m) c f ≡ cview (withRam ram v m) c f
 in-ram text m u v c h = every _ h (λ i k. refl) (λ i k. refl) refl refl refl refl (λ k. refl) refl refl refl refl
 in-ram columns m u v c h = every _ (λ i k. refl) h (λ i k. refl) refl refl refl refl (λ k. refl) refl refl refl refl
 in-ram pairs m u v c h = every _ (λ i k. refl) (λ i k. refl) h refl refl refl refl (λ k. refl) refl refl refl refl
-
--- A memory is one with that RAM's own.
-pub own-ram : (ram : Ram) (m : Memory) (c : Control) (f : Fact) → cview m c f ≡ cview (withRam ram (ofRam ram m) m) c f
-own-ram text m c f = refl
-own-ram columns m c f = refl
-own-ram pairs m c f = refl
 
 -- What a step that changes one RAM leaves.
 step-ram : (ram : Ram) (m : Memory) (v : ℕ → ℕ → Standing) (c : Control) (x : Change) (f : Fact)
@@ -68,21 +58,7 @@ module _ (ram : Ram) (m : Memory) (c : Control) (b : ℕ → ℕ) where
         (more storedRam j (aimed ram c (first + j)) (aimed ram c (suc (first + j))) (putIn (first + j) (b j)) (λ i k. refl)
         (aims-on ram c (first + j) (b j) (aims-at ram c (first + j) (h .here) (omega arith))) f)
 
-  -- Each may have gone to any cell.
-  abbrev metRam : ℕ → ℕ → ℕ → Standing
-  metRam j i k = whether (among 0 1 (cells ram) i) (metRun (bits ram) b j k (ofRam ram m i k)) (ofRam ram m i k)
-
-  abbrev pub roamed : ℕ → Fact → Standing
-  roamed j = cview (withRam ram (metRam j) m) c
-
-  pub roamed-more : Roams ram c → (j : ℕ) (f : Fact) → roamed (suc j) f ≡ know same? range (move (ByteIn (b j))) (roamed j) f
-  roamed-more h j f = more metRam j c c (metIn ram (b j)) (λ i k. again (among 0 1 (cells ram) i) (metRun (bits ram) b j k (ofRam ram m i k)) (ofRam ram m i k) (met (bits ram) (b j) k)) (roams-step (b j) ram h) f
-    where
-      again : (t : Bool) (x s : Standing) (g : Standing → Standing) → whether t (g x) s ≡ whether t (g (whether t x s)) (whether t x s)
-      again true x s g = refl
-      again false x s g = refl
-
--- Where both runs start, nothing has changed.
+-- Where the run starts, nothing has changed.
 pub stored-none : (ram : Ram) (m : Memory) (c : Control) (b : ℕ → ℕ) (first : ℕ) → Aims ram c first → (f : Fact) → stored ram m c b first 0 f ≡ cview m c f
 stored-none text m c b first h =
     let i = h .inside in
@@ -93,6 +69,3 @@ stored-none columns m c b first h =
 stored-none pairs m c b first h =
     let i = h .inside in
     every _ (λ i k. refl) (λ i k. refl) (λ i k. refl) refl refl (ap known (omega arith) ∙ sym (h .there)) refl (λ k. refl) refl refl refl refl
-
-pub roamed-none : (ram : Ram) (m : Memory) (c : Control) (b : ℕ → ℕ) (f : Fact) → roamed ram m c b 0 f ≡ cview m c f
-roamed-none ram m c b f = in-ram ram m _ (ofRam ram m) c (λ i k. whether-all (λ (s : Standing). s ≡ ofRam ram m i k) (among 0 1 (cells ram) i) _ _ (λ _. refl) (λ _. refl)) f ∙ sym (own-ram ram m c f)

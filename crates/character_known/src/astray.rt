@@ -1,11 +1,11 @@
-// A byte whose RAM is known and whose place there is not, as far as each place of the RAM may be the one. A run of such bytes is met with the RAM once.
+// A byte whose place is not known: whose RAM is known, and each place of it may be the one; or that may be a command, or go to any place of any RAM. A run of such bytes is met with the
+// memory once.
 use character_knowledge::ADRAM;
 use character_knowledge::CGRAM;
 use character_knowledge::Control;
 use character_knowledge::DCRAM;
 use character_knowledge::Pointing;
 use standing::Standing;
-ghost use mathlib.Core.Path.{_≡_};
 ghost use Rattle.character_known.specs.Ram.{Gone};
 
 pub enum Astray {
@@ -13,6 +13,8 @@ pub enum Astray {
     Shown,
     Drawn,
     Marked,
+    // Anywhere at all.
+    Anywhere,
     // Nothing of the kind.
     Not,
 }
@@ -25,8 +27,8 @@ pub fn strays(c: Control) -> Astray
     let drawn = c.cgram_at;
     let column = c.column;
     let marked = c.adram_at;
-    if let Standing::Known(place) = position {
-        match place {
+    match position {
+        Standing::Known(place) => match place {
             DCRAM => {
                 if let Pointing::Unknown = shown {
                     return Astray::Shown;
@@ -45,6 +47,17 @@ pub fn strays(c: Control) -> Astray
                 }
             }
             _ => {}
+        },
+        Standing::Unknown => {
+            if let Pointing::Unknown = shown {
+                if let Pointing::Unknown = drawn {
+                    if let Standing::Unknown = column {
+                        if let Pointing::Unknown = marked {
+                            return Astray::Anywhere;
+                        }
+                    }
+                }
+            }
         }
     }
     Astray::Not

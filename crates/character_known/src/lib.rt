@@ -9,6 +9,7 @@ mod lost;
 mod moves;
 mod stored;
 
+pub use anywhere::weakened;
 pub use astray::Astray;
 pub use astray::strays;
 pub use commanded::digits_set;

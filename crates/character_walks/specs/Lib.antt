@@ -1,3 +1,4 @@
 pub mod Walks
 pub mod Reached
 pub mod Runs
+pub mod Drifts

@@ -3,7 +3,7 @@ use Prim.Native.Nat.{ℕ, _+_, _*_, _<_, _≤_}
 use native.Mathlib.Omega.{arith}
 use mathlib.Core.Path.{_≡_, refl, subst}
 use mathlib.Core.List.{List}
-use lib.ListN.{length, drop, length-drop}
+use lib.ListN.{length, drop, getD, length-drop}
 use Rattle.rules.specs.Rule.{Rule}
 use Rattle.knowing.specs.Standing.{Standing, unknown}
 use Rattle.lamps.specs.View.{held}
@@ -25,6 +25,7 @@ use Rattle.character_knowledge.specs.View.{kview, Knows}
 use Rattle.character_steps.specs.Step.{Forgets, forgottenOf}
 use Rattle.character_steps.specs.Steps.{forgotten-steps, applied}
 use Rattle.walks.specs.Kept.{Kept, kept-read}
+use Rattle.walks.specs.Reads.{byte-there}
 
 abbrev pub Sized : Knowledge → Type 0
 Sized k = (length (k .dcram) ≡ 16) × ((length (k .cgram) ≡ 40) × (length (k .adram) ≡ 16))
@@ -68,13 +69,6 @@ module _ {p : Part} {l : List ℕ} {w : Walk} {first : Fact → Standing} {i : �
   pub reached : {d g a x y z : List ℕ} {c r : Control} → x ≡ d → y ≡ g → z ≡ a → r ≡ c → Reached p l w first i (knowledge d g a c) → Reached p l w first i (knowledge x y z r)
   reached q s t u h = rw (q, s, t, u) h
 
-  -- No byte leads nowhere.
-  pub stay-on : {k : Knowledge} → Reached p l w first i k → Reached p l w first (i + 2 * 0) k
-  stay-on {k} here = let e : i ≡ i + 2 * 0 = omega arith in subst (λ (n : ℕ). Reached p l w first n k) e here
-
-  pub stayed : {k : Knowledge} (n : ℕ) → n ≡ 0 → Reached p l w first (i + 2 * n) k → Reached p l w first i k
-  stayed {k} n z here = let e : i + 2 * n ≡ i = omega arith in subst (λ (m : ℕ). Reached p l w first m k) e here
-
   module _ {k : Knowledge} (here : Reached p l w first i k) (inside : i < length l) where
     pub one-on : (r : Knowledge) (e : Event) (n : ℕ) → front p (drop i l) ≡ Is e n → Knows (move e) k r → Sized r → Reached p l w first (i + n) r
     one-on r e n read h size = record {
@@ -95,3 +89,9 @@ module _ {p : Part} {l : List ℕ} {w : Walk} {first : Fact → Standing} {i : �
               (kept-read same? range move p l (i + 1) w first (kview begun) (kview r) (ByteIn b) 2 (omega arith) byte q fallen);
           sized = size;
         }
+
+    -- A byte that is taken by itself.
+    pub byte-on : (r : Knowledge) → i + 1 < length l → getD l i 0 ≡ 3 → Knows (move (ByteIn (getD l (i + 1) 0))) k r → Sized r → Reached p l w first (i + 2 * 1) r
+    byte-on r there kind h size =
+        let e : i + 2 ≡ i + 2 * 1 = omega arith in
+        subst (λ (n : ℕ). Reached p l w first n r) e (one-on r (ByteIn (getD l (i + 1) 0)) 2 (byte-there p l i kind there) h size)

@@ -1,5 +1,4 @@
--- A turn of the loop that takes a run of bytes: one that is stored, one of which each byte may have gone to any cell of its RAM, and one that changes
--- nothing. The argument: what is known behind each byte is told by the laws of runs, and behind the last one it is what stands in the rows.
+-- A turn of the loop that takes a run of bytes: one that is stored, and one that changes nothing. The argument: what is known behind each byte is told by the laws of runs, and behind the last one it is what stands in the rows.
 use Prim.Native.Nat.{ℕ, suc, _+_, _*_, _<_, _≤_}
 use mathlib.Core.Path.{_≡_, refl, sym, ap, _∙_}
 use mathlib.Core.List.{List}
@@ -18,8 +17,8 @@ use Rattle.character.specs.Move.{move}
 use Rattle.character_knowledge.specs.declared.control.Control.{Control}
 use Rattle.character_knowledge.specs.declared.knowledge.Knowledge.{Knowledge}
 use Rattle.character_knowledge.specs.View.{cview, memory, kview}
-use Rattle.character_known.specs.Ram.{Ram, text, columns, pairs, cells, bits, aimed, Aims, Roams, ofRam, withRam}
-use Rattle.character_known.specs.Runs.{in-ram, stored, stored-more, stored-none, roamed, roamed-more, roamed-none}
+use Rattle.character_known.specs.Ram.{Ram, text, columns, pairs, cells, bits, aimed, Aims, ofRam, withRam}
+use Rattle.character_known.specs.Runs.{in-ram, stored, stored-more, stored-none}
 use Rattle.byte_runs.specs.Sharing.{Shares}
 use Rattle.walks.specs.Kept.{kept-same}
 use Rattle.walks.specs.Run.{Run, byteOf, kept-run}
@@ -37,22 +36,16 @@ row-view columns k row c f = refl
 row-view pairs k row c f = refl
 
 -- Each of n bytes from a place on may have gone to any of the first cells: what they have in common is met with them once.
-pub record MeetsRun (wide cells : ℕ) (l : List ℕ) (i n : ℕ) (old row : List ℕ) : Type 0 where
-  pub code : ℕ
-  pub shares : Shares wide l i n code
-  pub met : Met wide code old 0 1 cells row
-
-met-all : (w wide cells : ℕ) (l : List ℕ) (i n : ℕ) (old row : List ℕ) → Wide w wide → MeetsRun wide cells l i n old row
+pub met-all : (w wide cells code : ℕ) (l : List ℕ) (i n : ℕ) (old row : List ℕ) → Wide w wide → Shares wide l i n code → Met wide code old 0 1 cells row
     → (x y : ℕ) → held w row x y ≡ whether (among 0 1 cells x) (metRun w (byteOf l i) n y (held w old x y)) (held w old x y)
-met-all w wide cells l i n old row W run x y =
-    let s = run .shares in
+met-all w wide cells code l i n old row W s met x y =
     rw (s .counted)
-    (run .met .shows w W (shared-none-past w (byteOf l i) (run .code) (s .others) (s .common w W)) x y
-    ∙ ap (λ (t : Standing). whether (among 0 1 cells x) t (held w old x y)) (shared-met-code w (byteOf l i) (run .code) (s .others) (s .common w W) y (held w old x y)))
+    (met .shows w W (shared-none-past w (byteOf l i) code (s .others) (s .common w W)) x y
+    ∙ ap (λ (t : Standing). whether (among 0 1 cells x) t (held w old x y)) (shared-met-code w (byteOf l i) code (s .others) (s .common w W) y (held w old x y)))
 
 module _ {p : Part} {l : List ℕ} {w : Walk} {first : Fact → Standing} {i : ℕ} {k : Knowledge} (n : ℕ) (here : Reached p l w first i k) (run : Run l i n) where
   -- By what is known behind each byte, from the first knowledge to the last.
-  leads : (known : ℕ → Fact → Standing) (r : Knowledge) → ((f : Fact) → known 0 f ≡ kview k f)
+  pub leads : (known : ℕ → Fact → Standing) (r : Knowledge) → ((f : Fact) → known 0 f ≡ kview k f)
       → ((j : ℕ) → j < n → (f : Fact) → known (suc j) f ≡ know same? range (move (ByteIn (byteOf l i j))) (known j) f) → ((f : Fact) → known n f ≡ kview r f)
       → Sized r → Reached p l w first (i + 2 * n) r
   leads known r start each there size = record {
@@ -73,14 +66,6 @@ module _ {p : Part} {l : List ℕ} {w : Walk} {first : Fact → Standing} {i : �
       in-ram ram (memory k) (storedRun (bits ram) cell (byteOf l i) n (ofRam ram (memory k))) (held (bits ram) row) (aimed ram (k .control) (cell + n)) (λ x y. sym (put x y)) f
       ∙ ap (λ (d : Control). cview (withRam ram (held (bits ram) row) (memory k)) d f) (sym e)
       ∙ row-view ram k row c f)
-
-  -- Each may have gone to any cell.
-  pub roamed-on : (ram : Ram) (wide : ℕ) (row old : List ℕ) → Roams ram (k .control) → Wide (bits ram) wide → ofRam ram (memory k) ≡ held (bits ram) old
-      → MeetsRun wide (cells ram) l i n old row → Sized (withRow ram k row (k .control)) → Reached p l w first (i + 2 * n) (withRow ram k row (k .control))
-  roamed-on ram wide row old roams W own run =
-      leads (roamed ram (memory k) (k .control) (byteOf l i)) (withRow ram k row (k .control)) (roamed-none ram (memory k) (k .control) (byteOf l i))
-      (λ j h. roamed-more ram (memory k) (k .control) (byteOf l i) roams j)
-      (λ f. in-ram ram (memory k) _ (held (bits ram) row) (k .control) (λ x y. rw own (sym (met-all (bits ram) wide (cells ram) l i n old row W run x y))) f ∙ row-view ram k row (k .control) f)
 
   -- No byte changes anything.
   pub passed-on : ((b : ℕ) (f : Fact) → kview k f ≡ know same? range (move (ByteIn b)) (kview k) f) → Reached p l w first (i + 2 * n) k

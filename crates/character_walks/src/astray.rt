@@ -1,22 +1,30 @@
 // Bytes of which it is not known where in a RAM they went, or whether they went anywhere.
+use crate::drift::gather_run;
 use byte_runs::passed;
-use byte_runs::shared;
 use changes::meet_run;
 use character_knowledge::Control;
-use character_known::Astray;
 use character_known::nothing_known;
 use character_known::strays;
+use character_known::taken;
 use lamps::EIGHT;
 use lamps::SEVEN;
 use lamps::TWO;
+use lamps::cut;
+use terms::Event;
 use terms::Place;
 ghost use mathlib.Core.Path.{_≡_};
 ghost use Prim.Native.Nat.{_+_, _<_};
 ghost use lib.ListN.{length, getD};
 ghost use Rattle.character_walks.specs.Reached.{knowledge, Sized, Leads};
-ghost use Rattle.character_walks.specs.Runs.{MeetsRun};
 
-// Takes a run of bytes that leaves what is known beside the memory as it is, and tells how many they are; or takes none.
+// What is known beside the memory behind the bytes that were taken, and how many they are.
+pub struct Strayed {
+    pub control: Control,
+    pub count: usize,
+}
+
+// Takes a run of bytes: where nothing is known it is passed over, and else the cells that its bytes may have gone to meet what these have in common once. Where a run cannot be taken so, it
+// takes one byte.
 pub fn stray_run(
     c: Control,
     dcram: &mut [u16],
@@ -24,30 +32,26 @@ pub fn stray_run(
     adram: &mut [u16],
     bytes: &[u8],
     at: Place,
-) -> usize
+) -> Strayed
     requires { ⌜ (Sized (knowledge (now dcram) (now cgram) (now adram) c)) × ((at .0 + 1 < length (now bytes)) × (getD (now bytes) (at .0) 0 ≡ 3)) ⌝ }
-    ensures { λ r. ⌜ Leads (now (bytes .entry)) (at .0) r (knowledge (now (dcram .entry)) (now (cgram .entry)) (now (adram .entry)) c) (knowledge (now (dcram .exit)) (now (cgram .exit)) (now (adram .exit)) c) ⌝ }
+    ensures { λ r. ⌜ (0 < r .count) × Leads (now (bytes .entry)) (at .0) (r .count) (knowledge (now (dcram .entry)) (now (cgram .entry)) (now (adram .entry)) c) (knowledge (now (dcram .exit)) (now (cgram .exit)) (now (adram .exit)) (r .control)) ⌝ }
 {
     let place = strays(c);
-    match place {
-        Astray::Shown => meet_bytes(dcram, EIGHT, 16, bytes, at),
-        Astray::Drawn => meet_bytes(cgram, SEVEN, 40, bytes, at),
-        Astray::Marked => meet_bytes(adram, TWO, 16, bytes, at),
-        Astray::Not => {
-            if nothing_known(c, dcram, cgram, adram) {
-                return passed(bytes, at);
-            }
-            0
-        }
+    if nothing_known(c, place, dcram, cgram, adram) {
+        let count = passed(bytes, at);
+        return Strayed { control: c, count };
     }
-}
-
-// Each byte of a run may have gone to any of the cells. What the bytes have in common is met with them once.
-fn meet_bytes(codes: &mut [u16], wide: u16, cells: usize, bytes: &[u8], at: Place) -> usize
-    requires { ⌜ (length (now codes) ≡ cells) × ((at .0 + 1 < length (now bytes)) × (getD (now bytes) (at .0) 0 ≡ 3)) ⌝ }
-    ensures { λ r. ⌜ MeetsRun wide cells (now (bytes .entry)) (at .0) r (now (codes .entry)) (now (codes .exit)) ⌝ }
-{
-    let common = shared(wide, bytes, at);
-    meet_run(codes, wide, 0, cells, common.code);
-    common.count
+    let run = gather_run(c, place, bytes, at);
+    let count = run.count;
+    if count == 0 {
+        let event = Event::ByteIn(bytes[at.0 + 1]);
+        let control = taken(c, dcram, cgram, adram, event);
+        return Strayed { control, count: 1 };
+    }
+    let code = run.code;
+    meet_run(dcram, EIGHT, 0, run.dcram, code);
+    meet_run(cgram, SEVEN, 0, run.cgram, cut(SEVEN, code));
+    meet_run(adram, TWO, 0, run.adram, cut(TWO, code));
+    let control = run.control;
+    Strayed { control, count }
 }

@@ -1,5 +1,6 @@
 // The walk for PT6302.
 mod astray;
+mod drift;
 mod rows;
 
 use crate::astray::stray_run;
@@ -36,7 +37,6 @@ use pointing::stops_at;
 use recording::Ending;
 use recording::Read;
 use stored_runs::put_run;
-use terms::Event;
 use terms::Part;
 use terms::Place;
 ghost use Rattle.character_walks.specs.Walks.{Walks};
@@ -88,7 +88,7 @@ pub fn character_walk(part: Part, k: Knowledge, bytes: &[u8]) -> CharacterWalked
                 control = rises(control);
                 i += 1;
             }
-            Everyday::ByteIn(byte) => {
+            Everyday::ByteIn(_) => {
                 let to = goes_to(control);
                 match to {
                     Target::Shown(cell) => {
@@ -108,14 +108,17 @@ pub fn character_walk(part: Part, k: Knowledge, bytes: &[u8]) -> CharacterWalked
                     }
                     Target::Nowhere => i += 2 * passed(bytes, at),
                     Target::Elsewhere => {
-                        let n = stray_run(control, &mut dcram, &mut cgram, &mut adram, bytes, at);
-                        if n == 0 {
-                            let event = Event::ByteIn(byte);
-                            control = taken(control, &mut dcram, &mut cgram, &mut adram, event);
-                            i += 2;
-                        } else {
-                            i += 2 * n;
-                        }
+                        let strayed = stray_run(
+                            control,
+                            &mut dcram,
+                            &mut cgram,
+                            &mut adram,
+                            bytes,
+                            at,
+                        );
+                        let left = strayed.control;
+                        control = left;
+                        i += 2 * strayed.count;
                     }
                 }
             }

@@ -22,7 +22,7 @@ use Rattle.character_known.specs.Ram.{text, columns, pairs, Aims}
 use Rattle.character_known.specs.Everyday.{Deaf, hit, first-kept, first-forgot}
 use Rattle.walks.specs.Kept.{kept-start, kept-as, kept-done, kept-stops}
 use Rattle.walks.specs.Reads.{falls-there, byte-there, rises-there, gap-there}
-use Rattle.character_walks.specs.Reached.{Sized, knowledge, Reached, reached, stayed, blanked, glanced, record-within, one-on, strobe-on}
+use Rattle.character_walks.specs.Reached.{Sized, knowledge, Reached, reached, blanked, glanced, record-within, one-on, strobe-on}
 use Rattle.character_walks.specs.Runs.{stored-on, passed-on}
 use Rattle.character_walks.proofs.character_walk.Statement.{statement}
 use Rattle.character_walks.proofs.character_walk.Tie as tie
@@ -199,8 +199,8 @@ loop-again-3 c = let a = c .before .before .before .before .before .before .befo
     let inside = c .before .before .before .before .loop-test .taken in
     one-on (at .inv) inside _ Rises 1 (rises-there (a .part) l (at .i) (glanced l (at .i) (c .before .enum-told4 .given .1) (c .before .before .before .everyday-at .ensures)) inside) (c .rises .ensures (memory k)) (at .inv .sized)
 
-enum-known-day-2 : tie.Need-enum-known-day-2 Inv-loop μ-loop
-enum-known-day-2 c = search needs
+enum-told-5 : tie.Need-enum-told-5 Inv-loop μ-loop
+enum-told-5 c = search needs
 
 goes-to-requires : tie.Need-goes-to-requires Inv-loop μ-loop
 goes-to-requires c κs = search needs
@@ -212,26 +212,26 @@ slice-aggregate-put-run : tie.Need-slice-aggregate-put-run Inv-loop μ-loop
 slice-aggregate-put-run c = search needs
 
 put-run-requires : tie.Need-put-run-requires Inv-loop μ-loop
-put-run-requires c κs = let h : Aims text (c .before .before .before .before .before .before .before .before .before .before .loop .control) (c .before .before .to .given .0 .0 .0) = hit (c .before .before .before .before .before .before .before .before .before .before .loop .control) (c .before .before .to .given .1) (c .before .before .before .before .goes-to .ensures) in
-    let g : InByte (c .before .before .before .before .before .before .before .before .before .before .before .before .before .before .before .before .args .bytes .now) (c .before .before .before .before .before .before .before .before .before .before .loop .i) (c .before .before .before .before .before .before .day2 .given .0 .0) = glanced (c .before .before .before .before .before .before .before .before .before .before .before .before .before .before .before .before .args .bytes .now) (c .before .before .before .before .before .before .before .before .before .before .loop .i) (c .before .before .before .before .before .before .day2 .given .1) (c .before .before .before .before .before .before .before .before .everyday-at .ensures) in
-    ((h .inside, omega (arith, c .before .before .before .before .before .before .before .before .before .before .loop .inv .sized .0)), (g .there, g .kind))
+put-run-requires c κs = let h : Aims text (c .before .before .before .before .before .before .before .before .before .loop .control) (c .before .before .to .given .0 .0 .0) = hit (c .before .before .before .before .before .before .before .before .before .loop .control) (c .before .before .to .given .1) (c .before .before .before .before .goes-to .ensures) in
+    let g : InByte (c .before .before .before .before .before .before .before .before .before .before .before .before .before .before .before .args .bytes .now) (c .before .before .before .before .before .before .before .before .before .loop .i) (c .before .before .before .before .before .enum-told5 .given .0 .0) = glanced (c .before .before .before .before .before .before .before .before .before .before .before .before .before .before .before .args .bytes .now) (c .before .before .before .before .before .before .before .before .before .loop .i) (c .before .before .before .before .before .enum-told5 .given .1) (c .before .before .before .before .before .before .before .everyday-at .ensures) in
+    ((h .inside, omega (arith, c .before .before .before .before .before .before .before .before .before .loop .inv .sized .0)), (g .there, g .kind))
 
 shown-by-requires : tie.Need-shown-by-requires Inv-loop μ-loop
 shown-by-requires c κs = c .before .put-run .ensures .room
 
 mul-i : tie.Need-mul-i Inv-loop μ-loop
-mul-i c = record { fits = omega (arith, c .before .before .put-run .ensures .run .fits, c .before .before .before .before .before .before .before .before .before .before .before .before .before .before .before .before .before .before .before .good .1 .1 .0) }
+mul-i c = record { fits = omega (arith, c .before .before .put-run .ensures .run .fits, c .before .before .before .before .before .before .before .before .before .before .before .before .before .before .before .before .before .before .good .1 .1 .0) }
 
 add-i-4 : tie.Need-add-i-4 Inv-loop μ-loop
-add-i-4 c = record { fits = omega (arith, c .before .before .put-run .ensures .run .fits, c .before .before .before .before .before .before .before .before .before .before .before .before .before .before .before .before .before .before .before .good .1 .1 .0) }
+add-i-4 c = record { fits = omega (arith, c .before .before .put-run .ensures .run .fits, c .before .before .before .before .before .before .before .before .before .before .before .before .before .before .before .before .before .before .good .1 .1 .0) }
 
 loop-less-4 : tie.Need-loop-less-4 Inv-loop μ-loop
-loop-less-4 c = omega (arith, c .before .before .put-run .ensures .some, c .before .before .before .before .before .before .before .before .before .before .before .before .loop-test .taken)
+loop-less-4 c = omega (arith, c .before .before .put-run .ensures .some, c .before .before .before .before .before .before .before .before .before .before .before .loop-test .taken)
 
 loop-again-4 : tie.Need-loop-again-4 Inv-loop μ-loop
-loop-again-4 c = let at = c .before .before .before .before .before .before .before .before .before .before .before .before .before .loop in
+loop-again-4 c = let at = c .before .before .before .before .before .before .before .before .before .before .before .before .loop in
     let put = c .before .before .put-run in
-    stored-on (put .result) (at .inv) (put .ensures .run) text (c .before .before .before .before .before .to .given .0 .0 .0) (put .last .0) (c .shown-by .result) (hit (c .before .before .before .before .before .before .before .before .before .before .before .before .before .loop .control) (c .before .before .before .before .before .to .given .1) (c .before .before .before .before .before .before .before .goes-to .ensures)) (put .ensures .room) (put .ensures .stored 8 wide8) (c .shown-by .ensures) (c .before .dcram5 .given, at .inv .sized .1)
+    stored-on (put .result) (at .inv) (put .ensures .run) text (c .before .before .before .before .before .to .given .0 .0 .0) (put .last .0) (c .shown-by .result) (hit (c .before .before .before .before .before .before .before .before .before .before .before .before .loop .control) (c .before .before .before .before .before .to .given .1) (c .before .before .before .before .before .before .before .goes-to .ensures)) (put .ensures .room) (put .ensures .stored 8 wide8) (c .shown-by .ensures) (c .before .dcram5 .given, at .inv .sized .1)
 
 enum-known-to-2 : tie.Need-enum-known-to-2 Inv-loop μ-loop
 enum-known-to-2 c = search needs
@@ -240,26 +240,26 @@ slice-aggregate-put-run-2 : tie.Need-slice-aggregate-put-run-2 Inv-loop μ-loop
 slice-aggregate-put-run-2 c = search needs
 
 put-run-requires-2 : tie.Need-put-run-requires-2 Inv-loop μ-loop
-put-run-requires-2 c κs = let h : Aims columns (c .before .before .before .before .before .before .before .before .before .before .loop .control) (c .before .before .to2 .given .0 .0 .0) = hit (c .before .before .before .before .before .before .before .before .before .before .loop .control) (c .before .before .to2 .given .1) (c .before .before .before .before .goes-to .ensures) in
-    let g : InByte (c .before .before .before .before .before .before .before .before .before .before .before .before .before .before .before .before .args .bytes .now) (c .before .before .before .before .before .before .before .before .before .before .loop .i) (c .before .before .before .before .before .before .day2 .given .0 .0) = glanced (c .before .before .before .before .before .before .before .before .before .before .before .before .before .before .before .before .args .bytes .now) (c .before .before .before .before .before .before .before .before .before .before .loop .i) (c .before .before .before .before .before .before .day2 .given .1) (c .before .before .before .before .before .before .before .before .everyday-at .ensures) in
-    ((h .inside, omega (arith, c .before .before .before .before .before .before .before .before .before .before .loop .inv .sized .1 .0)), (g .there, g .kind))
+put-run-requires-2 c κs = let h : Aims columns (c .before .before .before .before .before .before .before .before .before .loop .control) (c .before .before .to2 .given .0 .0 .0) = hit (c .before .before .before .before .before .before .before .before .before .loop .control) (c .before .before .to2 .given .1) (c .before .before .before .before .goes-to .ensures) in
+    let g : InByte (c .before .before .before .before .before .before .before .before .before .before .before .before .before .before .before .args .bytes .now) (c .before .before .before .before .before .before .before .before .before .loop .i) (c .before .before .before .before .before .enum-told5 .given .0 .0) = glanced (c .before .before .before .before .before .before .before .before .before .before .before .before .before .before .before .args .bytes .now) (c .before .before .before .before .before .before .before .before .before .loop .i) (c .before .before .before .before .before .enum-told5 .given .1) (c .before .before .before .before .before .before .before .everyday-at .ensures) in
+    ((h .inside, omega (arith, c .before .before .before .before .before .before .before .before .before .loop .inv .sized .1 .0)), (g .there, g .kind))
 
 drawn-by-requires : tie.Need-drawn-by-requires Inv-loop μ-loop
 drawn-by-requires c κs = c .before .put-run2 .ensures .room
 
 mul-i-2 : tie.Need-mul-i-2 Inv-loop μ-loop
-mul-i-2 c = record { fits = omega (arith, c .before .before .put-run2 .ensures .run .fits, c .before .before .before .before .before .before .before .before .before .before .before .before .before .before .before .before .before .before .before .good .1 .1 .0) }
+mul-i-2 c = record { fits = omega (arith, c .before .before .put-run2 .ensures .run .fits, c .before .before .before .before .before .before .before .before .before .before .before .before .before .before .before .before .before .before .good .1 .1 .0) }
 
 add-i-5 : tie.Need-add-i-5 Inv-loop μ-loop
-add-i-5 c = record { fits = omega (arith, c .before .before .put-run2 .ensures .run .fits, c .before .before .before .before .before .before .before .before .before .before .before .before .before .before .before .before .before .before .before .good .1 .1 .0) }
+add-i-5 c = record { fits = omega (arith, c .before .before .put-run2 .ensures .run .fits, c .before .before .before .before .before .before .before .before .before .before .before .before .before .before .before .before .before .before .good .1 .1 .0) }
 
 loop-less-5 : tie.Need-loop-less-5 Inv-loop μ-loop
-loop-less-5 c = omega (arith, c .before .before .put-run2 .ensures .some, c .before .before .before .before .before .before .before .before .before .before .before .before .loop-test .taken)
+loop-less-5 c = omega (arith, c .before .before .put-run2 .ensures .some, c .before .before .before .before .before .before .before .before .before .before .before .loop-test .taken)
 
 loop-again-5 : tie.Need-loop-again-5 Inv-loop μ-loop
-loop-again-5 c = let at = c .before .before .before .before .before .before .before .before .before .before .before .before .before .loop in
+loop-again-5 c = let at = c .before .before .before .before .before .before .before .before .before .before .before .before .loop in
     let put = c .before .before .put-run2 in
-    stored-on (put .result) (at .inv) (put .ensures .run) columns (c .before .before .before .before .before .to2 .given .0 .0 .0) (put .last .0) (c .drawn-by .result) (hit (c .before .before .before .before .before .before .before .before .before .before .before .before .before .loop .control) (c .before .before .before .before .before .to2 .given .1) (c .before .before .before .before .before .before .before .goes-to .ensures)) (put .ensures .room) (put .ensures .stored 7 wide7) (c .drawn-by .ensures) (at .inv .sized .0, (c .before .cgram5 .given, at .inv .sized .1 .1))
+    stored-on (put .result) (at .inv) (put .ensures .run) columns (c .before .before .before .before .before .to2 .given .0 .0 .0) (put .last .0) (c .drawn-by .result) (hit (c .before .before .before .before .before .before .before .before .before .before .before .before .loop .control) (c .before .before .before .before .before .to2 .given .1) (c .before .before .before .before .before .before .before .goes-to .ensures)) (put .ensures .room) (put .ensures .stored 7 wide7) (c .drawn-by .ensures) (at .inv .sized .0, (c .before .cgram5 .given, at .inv .sized .1 .1))
 
 enum-known-to-3 : tie.Need-enum-known-to-3 Inv-loop μ-loop
 enum-known-to-3 c = search needs
@@ -268,51 +268,51 @@ slice-aggregate-put-run-3 : tie.Need-slice-aggregate-put-run-3 Inv-loop μ-loop
 slice-aggregate-put-run-3 c = search needs
 
 put-run-requires-3 : tie.Need-put-run-requires-3 Inv-loop μ-loop
-put-run-requires-3 c κs = let h : Aims pairs (c .before .before .before .before .before .before .before .before .before .before .loop .control) (c .before .before .to3 .given .0 .0 .0) = hit (c .before .before .before .before .before .before .before .before .before .before .loop .control) (c .before .before .to3 .given .1) (c .before .before .before .before .goes-to .ensures) in
-    let g : InByte (c .before .before .before .before .before .before .before .before .before .before .before .before .before .before .before .before .args .bytes .now) (c .before .before .before .before .before .before .before .before .before .before .loop .i) (c .before .before .before .before .before .before .day2 .given .0 .0) = glanced (c .before .before .before .before .before .before .before .before .before .before .before .before .before .before .before .before .args .bytes .now) (c .before .before .before .before .before .before .before .before .before .before .loop .i) (c .before .before .before .before .before .before .day2 .given .1) (c .before .before .before .before .before .before .before .before .everyday-at .ensures) in
-    ((h .inside, omega (arith, c .before .before .before .before .before .before .before .before .before .before .loop .inv .sized .1 .1)), (g .there, g .kind))
+put-run-requires-3 c κs = let h : Aims pairs (c .before .before .before .before .before .before .before .before .before .loop .control) (c .before .before .to3 .given .0 .0 .0) = hit (c .before .before .before .before .before .before .before .before .before .loop .control) (c .before .before .to3 .given .1) (c .before .before .before .before .goes-to .ensures) in
+    let g : InByte (c .before .before .before .before .before .before .before .before .before .before .before .before .before .before .before .args .bytes .now) (c .before .before .before .before .before .before .before .before .before .loop .i) (c .before .before .before .before .before .enum-told5 .given .0 .0) = glanced (c .before .before .before .before .before .before .before .before .before .before .before .before .before .before .before .args .bytes .now) (c .before .before .before .before .before .before .before .before .before .loop .i) (c .before .before .before .before .before .enum-told5 .given .1) (c .before .before .before .before .before .before .before .everyday-at .ensures) in
+    ((h .inside, omega (arith, c .before .before .before .before .before .before .before .before .before .loop .inv .sized .1 .1)), (g .there, g .kind))
 
 marked-by-requires : tie.Need-marked-by-requires Inv-loop μ-loop
 marked-by-requires c κs = c .before .put-run3 .ensures .room
 
 mul-i-3 : tie.Need-mul-i-3 Inv-loop μ-loop
-mul-i-3 c = record { fits = omega (arith, c .before .before .put-run3 .ensures .run .fits, c .before .before .before .before .before .before .before .before .before .before .before .before .before .before .before .before .before .before .before .good .1 .1 .0) }
+mul-i-3 c = record { fits = omega (arith, c .before .before .put-run3 .ensures .run .fits, c .before .before .before .before .before .before .before .before .before .before .before .before .before .before .before .before .before .before .good .1 .1 .0) }
 
 add-i-6 : tie.Need-add-i-6 Inv-loop μ-loop
-add-i-6 c = record { fits = omega (arith, c .before .before .put-run3 .ensures .run .fits, c .before .before .before .before .before .before .before .before .before .before .before .before .before .before .before .before .before .before .before .good .1 .1 .0) }
+add-i-6 c = record { fits = omega (arith, c .before .before .put-run3 .ensures .run .fits, c .before .before .before .before .before .before .before .before .before .before .before .before .before .before .before .before .before .before .good .1 .1 .0) }
 
 loop-less-6 : tie.Need-loop-less-6 Inv-loop μ-loop
-loop-less-6 c = omega (arith, c .before .before .put-run3 .ensures .some, c .before .before .before .before .before .before .before .before .before .before .before .before .loop-test .taken)
+loop-less-6 c = omega (arith, c .before .before .put-run3 .ensures .some, c .before .before .before .before .before .before .before .before .before .before .before .loop-test .taken)
 
 loop-again-6 : tie.Need-loop-again-6 Inv-loop μ-loop
-loop-again-6 c = let at = c .before .before .before .before .before .before .before .before .before .before .before .before .before .loop in
+loop-again-6 c = let at = c .before .before .before .before .before .before .before .before .before .before .before .before .loop in
     let put = c .before .before .put-run3 in
-    stored-on (put .result) (at .inv) (put .ensures .run) pairs (c .before .before .before .before .before .to3 .given .0 .0 .0) (put .last .0) (c .marked-by .result) (hit (c .before .before .before .before .before .before .before .before .before .before .before .before .before .loop .control) (c .before .before .before .before .before .to3 .given .1) (c .before .before .before .before .before .before .before .goes-to .ensures)) (put .ensures .room) (put .ensures .stored 2 wide2) (c .marked-by .ensures) (at .inv .sized .0, (at .inv .sized .1 .0, c .before .adram5 .given))
-
-enum-told-5 : tie.Need-enum-told-5 Inv-loop μ-loop
-enum-told-5 c = search needs
-
-passed-requires : tie.Need-passed-requires Inv-loop μ-loop
-passed-requires c κs = let g : InByte (c .before .before .before .before .before .before .before .before .before .before .before .before .before .before .args .bytes .now) (c .before .before .before .before .before .before .before .before .loop .i) (c .before .before .before .before .day2 .given .0 .0) = glanced (c .before .before .before .before .before .before .before .before .before .before .before .before .before .before .args .bytes .now) (c .before .before .before .before .before .before .before .before .loop .i) (c .before .before .before .before .day2 .given .1) (c .before .before .before .before .before .before .everyday-at .ensures) in
-    (g .there, g .kind)
-
-mul-i-4 : tie.Need-mul-i-4 Inv-loop μ-loop
-mul-i-4 c = record { fits = omega (arith, c .passed .ensures .1 .fits, c .before .before .before .before .before .before .before .before .before .before .before .before .before .before .before .good .1 .1 .0) }
-
-add-i-7 : tie.Need-add-i-7 Inv-loop μ-loop
-add-i-7 c = record { fits = omega (arith, c .passed .ensures .1 .fits, c .before .before .before .before .before .before .before .before .before .before .before .before .before .before .before .good .1 .1 .0) }
-
-loop-less-7 : tie.Need-loop-less-7 Inv-loop μ-loop
-loop-less-7 c = omega (arith, c .passed .ensures .0, c .before .before .before .before .before .before .before .before .loop-test .taken)
-
-loop-again-7 : tie.Need-loop-again-7 Inv-loop μ-loop
-loop-again-7 c = let at = c .before .before .before .before .before .before .before .before .before .loop in
-    let k = knowledge (at .dcram) (at .cgram) (at .adram) (at .control) in
-    let h : Deaf (at .control) = hit (at .control) (c .before .enum-told5 .given .1) (c .before .before .before .goes-to .ensures) in
-    passed-on (c .passed .result) (at .inv) (c .passed .ensures .1) (λ b. h b (memory k))
+    stored-on (put .result) (at .inv) (put .ensures .run) pairs (c .before .before .before .before .before .to3 .given .0 .0 .0) (put .last .0) (c .marked-by .result) (hit (c .before .before .before .before .before .before .before .before .before .before .before .before .loop .control) (c .before .before .before .before .before .to3 .given .1) (c .before .before .before .before .before .before .before .goes-to .ensures)) (put .ensures .room) (put .ensures .stored 2 wide2) (c .marked-by .ensures) (at .inv .sized .0, (at .inv .sized .1 .0, c .before .adram5 .given))
 
 enum-told-6 : tie.Need-enum-told-6 Inv-loop μ-loop
 enum-told-6 c = search needs
+
+passed-requires : tie.Need-passed-requires Inv-loop μ-loop
+passed-requires c κs = let g : InByte (c .before .before .before .before .before .before .before .before .before .before .before .before .before .args .bytes .now) (c .before .before .before .before .before .before .before .loop .i) (c .before .before .before .enum-told5 .given .0 .0) = glanced (c .before .before .before .before .before .before .before .before .before .before .before .before .before .args .bytes .now) (c .before .before .before .before .before .before .before .loop .i) (c .before .before .before .enum-told5 .given .1) (c .before .before .before .before .before .everyday-at .ensures) in
+    (g .there, g .kind)
+
+mul-i-4 : tie.Need-mul-i-4 Inv-loop μ-loop
+mul-i-4 c = record { fits = omega (arith, c .passed .ensures .1 .fits, c .before .before .before .before .before .before .before .before .before .before .before .before .before .before .good .1 .1 .0) }
+
+add-i-7 : tie.Need-add-i-7 Inv-loop μ-loop
+add-i-7 c = record { fits = omega (arith, c .passed .ensures .1 .fits, c .before .before .before .before .before .before .before .before .before .before .before .before .before .before .good .1 .1 .0) }
+
+loop-less-7 : tie.Need-loop-less-7 Inv-loop μ-loop
+loop-less-7 c = omega (arith, c .passed .ensures .0, c .before .before .before .before .before .before .before .loop-test .taken)
+
+loop-again-7 : tie.Need-loop-again-7 Inv-loop μ-loop
+loop-again-7 c = let at = c .before .before .before .before .before .before .before .before .loop in
+    let k = knowledge (at .dcram) (at .cgram) (at .adram) (at .control) in
+    let h : Deaf (at .control) = hit (at .control) (c .before .enum-told6 .given .1) (c .before .before .before .goes-to .ensures) in
+    passed-on (c .passed .result) (at .inv) (c .passed .ensures .1) (λ b. h b (memory k))
+
+enum-told-7 : tie.Need-enum-told-7 Inv-loop μ-loop
+enum-told-7 c = search needs
 
 slice-aggregate-stray-run : tie.Need-slice-aggregate-stray-run Inv-loop μ-loop
 slice-aggregate-stray-run c = search needs
@@ -324,57 +324,29 @@ slice-aggregate-stray-run-3 : tie.Need-slice-aggregate-stray-run-3 Inv-loop μ-l
 slice-aggregate-stray-run-3 c = search needs
 
 stray-run-requires : tie.Need-stray-run-requires Inv-loop μ-loop
-stray-run-requires c κs = let g : InByte (c .before .before .before .before .before .before .before .before .before .before .before .before .before .before .before .before .before .args .bytes .now) (c .before .before .before .before .before .before .before .before .before .before .before .loop .i) (c .before .before .before .before .before .before .before .day2 .given .0 .0) = glanced (c .before .before .before .before .before .before .before .before .before .before .before .before .before .before .before .before .before .args .bytes .now) (c .before .before .before .before .before .before .before .before .before .before .before .loop .i) (c .before .before .before .before .before .before .before .day2 .given .1) (c .before .before .before .before .before .before .before .before .before .everyday-at .ensures) in
-    (c .before .before .before .before .before .before .before .before .before .before .before .loop .inv .sized, (g .there, g .kind))
-
-slice-aggregate-taken : tie.Need-slice-aggregate-taken Inv-loop μ-loop
-slice-aggregate-taken c = search needs
-
-slice-aggregate-taken-2 : tie.Need-slice-aggregate-taken-2 Inv-loop μ-loop
-slice-aggregate-taken-2 c = search needs
-
-slice-aggregate-taken-3 : tie.Need-slice-aggregate-taken-3 Inv-loop μ-loop
-slice-aggregate-taken-3 c = search needs
-
-taken-requires : tie.Need-taken-requires Inv-loop μ-loop
-taken-requires c κs = search needs
-
-add-i-8 : tie.Need-add-i-8 Inv-loop μ-loop
-add-i-8 c = let g : InByte (c .before .before .before .before .before .before .before .before .before .before .before .before .before .before .before .before .before .before .before .before .before .before .before .before .before .before .before .before .before .args .bytes .now) (c .before .before .before .before .before .before .before .before .before .before .before .before .before .before .before .before .before .before .before .before .before .before .before .loop .i) (c .before .before .before .before .before .before .before .before .before .before .before .before .before .before .before .before .before .before .before .day2 .given .0 .0) = glanced (c .before .before .before .before .before .before .before .before .before .before .before .before .before .before .before .before .before .before .before .before .before .before .before .before .before .before .before .before .before .args .bytes .now) (c .before .before .before .before .before .before .before .before .before .before .before .before .before .before .before .before .before .before .before .before .before .before .before .loop .i) (c .before .before .before .before .before .before .before .before .before .before .before .before .before .before .before .before .before .before .before .day2 .given .1) (c .before .before .before .before .before .before .before .before .before .before .before .before .before .before .before .before .before .before .before .before .before .everyday-at .ensures) in
-    record { fits = omega (arith, g .there, c .before .before .before .before .before .before .before .before .before .before .before .before .before .before .before .before .before .before .before .before .before .before .before .before .before .before .before .before .before .good .1 .1 .0) }
-
-loop-less-8 : tie.Need-loop-less-8 Inv-loop μ-loop
-loop-less-8 c = omega (arith, c .before .before .before .before .before .before .before .before .before .before .before .before .before .before .before .before .before .before .before .before .before .before .loop-test .taken)
-
-loop-again-8 : tie.Need-loop-again-8 Inv-loop μ-loop
-loop-again-8 c = let a = c .before .before .before .before .before .before .before .before .before .before .before .before .before .before .before .before .before .before .before .before .before .before .before .before .before .before .before .before .before .args in
-    let at = c .before .before .before .before .before .before .before .before .before .before .before .before .before .before .before .before .before .before .before .before .before .before .before .loop in
-    let l = a .bytes .now in
-    let b = c .before .before .before .before .before .before .before .before .before .before .before .before .before .before .before .before .before .before .before .day2 .given .0 .0 in
-    let g : InByte l (at .i) b = glanced l (at .i) (c .before .before .before .before .before .before .before .before .before .before .before .before .before .before .before .before .before .before .before .day2 .given .1) (c .before .before .before .before .before .before .before .before .before .before .before .before .before .before .before .before .before .before .before .before .before .everyday-at .ensures) in
-    let here = stayed (c .before .before .before .before .before .before .before .before .before .before .before .stray-run .result) (c .before .before .before .before .before .before .before .if1 .taken) (c .before .before .before .before .before .before .before .before .before .before .before .stray-run .ensures (a .part) (walked (a .part) l) (kview (a .k)) (at .inv)) in
-    one-on here (c .before .before .before .before .before .before .before .before .before .before .before .before .before .before .before .before .before .before .before .before .before .before .loop-test .taken) _ (ByteIn b) 2 (byte-there (a .part) l (at .i) (g .kind) (g .there) ∙ ap (λ x. Is (ByteIn x) 2) (sym (g .byte))) (c .before .before .before .taken .ensures) (c .before .before .dcram9 .given, (c .before .cgram9 .given, c .adram9 .given))
+stray-run-requires c κs = let g : InByte (c .before .before .before .before .before .before .before .before .before .before .before .before .before .before .before .before .args .bytes .now) (c .before .before .before .before .before .before .before .before .before .before .loop .i) (c .before .before .before .before .before .before .enum-told5 .given .0 .0) = glanced (c .before .before .before .before .before .before .before .before .before .before .before .before .before .before .before .before .args .bytes .now) (c .before .before .before .before .before .before .before .before .before .before .loop .i) (c .before .before .before .before .before .before .enum-told5 .given .1) (c .before .before .before .before .before .before .before .before .everyday-at .ensures) in
+    (c .before .before .before .before .before .before .before .before .before .before .loop .inv .sized, (g .there, g .kind))
 
 mul-i-5 : tie.Need-mul-i-5 Inv-loop μ-loop
 mul-i-5 c = let a = c .before .before .before .before .before .before .before .before .before .before .before .before .before .before .before .before .before .before .before .before .before .before .args in
-    let l = a .bytes .now in
-    let on = c .before .before .before .before .stray-run .ensures (a .part) (walked (a .part) l) (kview (a .k)) (c .before .before .before .before .before .before .before .before .before .before .before .before .before .before .before .before .loop .inv) in
+    let on = c .before .before .before .before .before .stray-run .ensures .1 (a .part) (walked (a .part) (a .bytes .now)) (kview (a .k)) (c .before .before .before .before .before .before .before .before .before .before .before .before .before .before .before .before .loop .inv) in
     record { fits = omega (arith, on .within, c .before .before .before .before .before .before .before .before .before .before .before .before .before .before .before .before .before .before .before .before .before .before .good .1 .1 .0) }
 
-add-i-9 : tie.Need-add-i-9 Inv-loop μ-loop
-add-i-9 c = let a = c .before .before .before .before .before .before .before .before .before .before .before .before .before .before .before .before .before .before .before .before .before .before .args in
-    let l = a .bytes .now in
-    let on = c .before .before .before .before .stray-run .ensures (a .part) (walked (a .part) l) (kview (a .k)) (c .before .before .before .before .before .before .before .before .before .before .before .before .before .before .before .before .loop .inv) in
+add-i-8 : tie.Need-add-i-8 Inv-loop μ-loop
+add-i-8 c = let a = c .before .before .before .before .before .before .before .before .before .before .before .before .before .before .before .before .before .before .before .before .before .before .args in
+    let on = c .before .before .before .before .before .stray-run .ensures .1 (a .part) (walked (a .part) (a .bytes .now)) (kview (a .k)) (c .before .before .before .before .before .before .before .before .before .before .before .before .before .before .before .before .loop .inv) in
     record { fits = omega (arith, on .within, c .before .before .before .before .before .before .before .before .before .before .before .before .before .before .before .before .before .before .before .before .before .before .good .1 .1 .0) }
 
-loop-less-9 : tie.Need-loop-less-9 Inv-loop μ-loop
-loop-less-9 c = omega (arith, c .if1 .left, c .before .before .before .before .before .before .before .before .before .before .before .before .before .before .before .loop-test .taken)
+loop-less-8 : tie.Need-loop-less-8 Inv-loop μ-loop
+loop-less-8 c = omega (arith, c .before .before .before .before .before .stray-run .ensures .0, c .before .before .before .before .before .before .before .before .before .before .before .before .before .before .before .loop-test .taken)
 
-loop-again-9 : tie.Need-loop-again-9 Inv-loop μ-loop
-loop-again-9 c = c .before .before .before .before .stray-run .ensures (c .before .before .before .before .before .before .before .before .before .before .before .before .before .before .before .before .before .before .before .before .before .before .args .part) (walked (c .before .before .before .before .before .before .before .before .before .before .before .before .before .before .before .before .before .before .before .before .before .before .args .part) (c .before .before .before .before .before .before .before .before .before .before .before .before .before .before .before .before .before .before .before .before .before .before .args .bytes .now)) (kview (c .before .before .before .before .before .before .before .before .before .before .before .before .before .before .before .before .before .before .before .before .before .before .args .k)) (c .before .before .before .before .before .before .before .before .before .before .before .before .before .before .before .before .loop .inv)
+loop-again-8 : tie.Need-loop-again-8 Inv-loop μ-loop
+loop-again-8 c = let a = c .before .before .before .before .before .before .before .before .before .before .before .before .before .before .before .before .before .before .before .before .before .before .args in
+    let on = c .before .before .before .before .before .stray-run .ensures .1 (a .part) (walked (a .part) (a .bytes .now)) (kview (a .k)) (c .before .before .before .before .before .before .before .before .before .before .before .before .before .before .before .before .loop .inv) in
+    on
 
-enum-told-7 : tie.Need-enum-told-7 Inv-loop μ-loop
-enum-told-7 c = search needs
+enum-told-8 : tie.Need-enum-told-8 Inv-loop μ-loop
+enum-told-8 c = search needs
 
 no-control-requires : tie.Need-no-control-requires Inv-loop μ-loop
 no-control-requires c κs = search needs
@@ -391,23 +363,23 @@ slice-aggregate-forget-all-6 c = search needs
 forget-all-requires-2 : tie.Need-forget-all-requires-2 Inv-loop μ-loop
 forget-all-requires-2 c κs = search needs
 
-add-i-10 : tie.Need-add-i-10 Inv-loop μ-loop
-add-i-10 c = record { fits = omega (arith, c .before .before .before .before .before .before .before .before .before .before .before .loop-test .taken, c .before .before .before .before .before .before .before .before .before .before .before .before .before .before .before .before .before .before .good .1 .1 .0) }
+add-i-9 : tie.Need-add-i-9 Inv-loop μ-loop
+add-i-9 c = record { fits = omega (arith, c .before .before .before .before .before .before .before .before .before .before .before .loop-test .taken, c .before .before .before .before .before .before .before .before .before .before .before .before .before .before .before .before .before .before .good .1 .1 .0) }
 
-loop-less-10 : tie.Need-loop-less-10 Inv-loop μ-loop
-loop-less-10 c = omega (arith, c .before .before .before .before .before .before .before .before .before .before .before .loop-test .taken)
+loop-less-9 : tie.Need-loop-less-9 Inv-loop μ-loop
+loop-less-9 c = omega (arith, c .before .before .before .before .before .before .before .before .before .before .before .loop-test .taken)
 
-loop-again-10 : tie.Need-loop-again-10 Inv-loop μ-loop
-loop-again-10 c = let a = c .before .before .before .before .before .before .before .before .before .before .before .before .before .before .before .before .before .before .args in
+loop-again-9 : tie.Need-loop-again-9 Inv-loop μ-loop
+loop-again-9 c = let a = c .before .before .before .before .before .before .before .before .before .before .before .before .before .before .before .before .before .before .args in
     let at = c .before .before .before .before .before .before .before .before .before .before .before .before .loop in
     let l = a .bytes .now in
     let k = knowledge (at .dcram) (at .cgram) (at .adram) (at .control) in
     let inside = c .before .before .before .before .before .before .before .before .before .before .before .loop-test .taken in
-    one-on (at .inv) inside _ Gap 1 (gap-there (a .part) l (at .i) (glanced l (at .i) (c .before .before .before .before .before .before .before .before .enum-told7 .given .1) (c .before .before .before .before .before .before .before .before .before .before .everyday-at .ensures)) inside)
-    (blanked (move Gap) k (c .before .before .before .before .before .before .before .no-control .result) (λ m. c .before .before .before .before .before .before .before .no-control .ensures) (c .before .before .before .forget-all2 .ensures)) (c .before .before .dcram11 .given, (c .before .cgram11 .given, c .adram11 .given))
+    one-on (at .inv) inside _ Gap 1 (gap-there (a .part) l (at .i) (glanced l (at .i) (c .before .before .before .before .before .before .before .before .enum-told8 .given .1) (c .before .before .before .before .before .before .before .before .before .before .everyday-at .ensures)) inside)
+    (blanked (move Gap) k (c .before .before .before .before .before .before .before .no-control .result) (λ m. c .before .before .before .before .before .before .before .no-control .ensures) (c .before .before .before .forget-all2 .ensures)) (c .before .before .dcram9 .given, (c .before .cgram9 .given, c .adram9 .given))
 
-enum-told-8 : tie.Need-enum-told-8 Inv-loop μ-loop
-enum-told-8 c = search needs
+enum-told-9 : tie.Need-enum-told-9 Inv-loop μ-loop
+enum-told-9 c = search needs
 
 record-at-requires : tie.Need-record-at-requires Inv-loop μ-loop
 record-at-requires c κs = c .before .before .before .loop-test .taken
@@ -415,20 +387,20 @@ record-at-requires c κs = c .before .before .before .loop-test .taken
 enum-known-read : tie.Need-enum-known-read Inv-loop μ-loop
 enum-known-read c = search needs
 
-slice-aggregate-taken-4 : tie.Need-slice-aggregate-taken-4 Inv-loop μ-loop
-slice-aggregate-taken-4 c = search needs
+slice-aggregate-taken : tie.Need-slice-aggregate-taken Inv-loop μ-loop
+slice-aggregate-taken c = search needs
 
-slice-aggregate-taken-5 : tie.Need-slice-aggregate-taken-5 Inv-loop μ-loop
-slice-aggregate-taken-5 c = search needs
+slice-aggregate-taken-2 : tie.Need-slice-aggregate-taken-2 Inv-loop μ-loop
+slice-aggregate-taken-2 c = search needs
 
-slice-aggregate-taken-6 : tie.Need-slice-aggregate-taken-6 Inv-loop μ-loop
-slice-aggregate-taken-6 c = search needs
+slice-aggregate-taken-3 : tie.Need-slice-aggregate-taken-3 Inv-loop μ-loop
+slice-aggregate-taken-3 c = search needs
 
-taken-requires-2 : tie.Need-taken-requires-2 Inv-loop μ-loop
-taken-requires-2 c κs = search needs
+taken-requires : tie.Need-taken-requires Inv-loop μ-loop
+taken-requires c κs = search needs
 
-add-i-11 : tie.Need-add-i-11 Inv-loop μ-loop
-add-i-11 c = let a = c .before .before .before .before .before .before .before .before .before .before .before .before .before .before .before .before .before .before .before .before .before .args in
+add-i-10 : tie.Need-add-i-10 Inv-loop μ-loop
+add-i-10 c = let a = c .before .before .before .before .before .before .before .before .before .before .before .before .before .before .before .before .before .before .before .before .before .args in
     let at = c .before .before .before .before .before .before .before .before .before .before .before .before .before .before .before .loop in
     let l = a .bytes .now in
     let read = c .before .before .before .before .before .before .before .before .read .given in
@@ -436,8 +408,8 @@ add-i-11 c = let a = c .before .before .before .before .before .before .before .
     let f = record-within (a .part) l (at .i) (read .0 .0) (read .0 .1 .0) (c .before .before .before .before .before .before .before .before .before .before .before .before .before .before .loop-test .taken) e in
     record { fits = omega (arith, f, c .before .before .before .before .before .before .before .before .before .before .before .before .before .before .before .before .before .before .before .before .before .good .1 .1 .0) }
 
-loop-less-11 : tie.Need-loop-less-11 Inv-loop μ-loop
-loop-less-11 c = let a = c .before .before .before .before .before .before .before .before .before .before .before .before .before .before .before .before .before .before .before .before .before .args in
+loop-less-10 : tie.Need-loop-less-10 Inv-loop μ-loop
+loop-less-10 c = let a = c .before .before .before .before .before .before .before .before .before .before .before .before .before .before .before .before .before .before .before .before .before .args in
     let at = c .before .before .before .before .before .before .before .before .before .before .before .before .before .before .before .loop in
     let l = a .bytes .now in
     let read = c .before .before .before .before .before .before .before .before .read .given in
@@ -445,11 +417,11 @@ loop-less-11 c = let a = c .before .before .before .before .before .before .befo
     let f = record-within (a .part) l (at .i) (read .0 .0) (read .0 .1 .0) (c .before .before .before .before .before .before .before .before .before .before .before .before .before .before .loop-test .taken) e in
     omega (arith, f, c .before .before .before .before .before .before .before .before .before .before .before .before .before .before .loop-test .taken)
 
-loop-again-11 : tie.Need-loop-again-11 Inv-loop μ-loop
-loop-again-11 c = let at = c .before .before .before .before .before .before .before .before .before .before .before .before .before .before .before .loop in
+loop-again-10 : tie.Need-loop-again-10 Inv-loop μ-loop
+loop-again-10 c = let at = c .before .before .before .before .before .before .before .before .before .before .before .before .before .before .before .loop in
     let read = c .before .before .before .before .before .before .before .before .read .given in
     one-on (at .inv) (c .before .before .before .before .before .before .before .before .before .before .before .before .before .before .loop-test .taken) _ (read .0 .0) (read .0 .1 .0) (sym (c .before .before .before .before .before .before .before .before .before .before .record-at .ensures) ∙ read .1)
-    (c .before .before .before .taken2 .ensures) (c .before .before .dcram13 .given, (c .before .cgram13 .given, c .adram13 .given))
+    (c .before .before .before .taken .ensures) (c .before .before .dcram11 .given, (c .before .cgram11 .given, c .adram11 .given))
 
 enum-known-read-2 : tie.Need-enum-known-read-2 Inv-loop μ-loop
 enum-known-read-2 c = search needs
@@ -520,7 +492,7 @@ character-walk-spec =
     add-i-3
     loop-less-3
     loop-again-3
-    enum-known-day-2
+    enum-told-5
     goes-to-requires
     enum-known-to
     slice-aggregate-put-run
@@ -546,47 +518,40 @@ character-walk-spec =
     add-i-6
     loop-less-6
     loop-again-6
-    enum-told-5
+    enum-told-6
     passed-requires
     mul-i-4
     add-i-7
     loop-less-7
     loop-again-7
-    enum-told-6
+    enum-told-7
     slice-aggregate-stray-run
     slice-aggregate-stray-run-2
     slice-aggregate-stray-run-3
     stray-run-requires
-    slice-aggregate-taken
-    slice-aggregate-taken-2
-    slice-aggregate-taken-3
-    taken-requires
+    mul-i-5
     add-i-8
     loop-less-8
     loop-again-8
-    mul-i-5
-    add-i-9
-    loop-less-9
-    loop-again-9
-    enum-told-7
+    enum-told-8
     no-control-requires
     slice-aggregate-forget-all-4
     slice-aggregate-forget-all-5
     slice-aggregate-forget-all-6
     forget-all-requires-2
+    add-i-9
+    loop-less-9
+    loop-again-9
+    enum-told-9
+    record-at-requires
+    enum-known-read
+    slice-aggregate-taken
+    slice-aggregate-taken-2
+    slice-aggregate-taken-3
+    taken-requires
     add-i-10
     loop-less-10
     loop-again-10
-    enum-told-8
-    record-at-requires
-    enum-known-read
-    slice-aggregate-taken-4
-    slice-aggregate-taken-5
-    slice-aggregate-taken-6
-    taken-requires-2
-    add-i-11
-    loop-less-11
-    loop-again-11
     enum-known-read-2
     stops-at-requires
     returns

@@ -5,12 +5,16 @@ use mathlib.Core.Bool.{true≢false}
 use Rattle.rules.specs.Choice.{both}
 use Rattle.character.specs.Fact.{dcramAt, cgramAt, adramAt, column, port, duty, digits, lights, position}
 use Rattle.character.specs.Laws.{every}
+use Rattle.character_known.specs.Ram.{gone}
 use borrow.Author.Needs.{needs}
 use Rattle.character_known.proofs.lost.nothing_known.Statement.{statement}
 use Rattle.character_known.proofs.lost.nothing_known.Tie as tie
 
+enum-told : tie.Need-enum-told
+enum-told c = search needs
+
 nothing-left-requires : tie.Need-nothing-left-requires
-nothing-left-requires c κs = search needs
+nothing-left-requires c κs = gone (c .before .before .before .before .before .args .c) (c .enum-told .given .1) (c .before .before .before .before .before .pre)
 
 none-known-requires : tie.Need-none-known-requires
 none-known-requires c κs = search needs
@@ -32,13 +36,18 @@ returns c = λ e.
 returns-2 : tie.Need-returns-2
 returns-2 c = λ e. absurd (true≢false (sym e))
 
+returns-3 : tie.Need-returns-3
+returns-3 c = λ e. absurd (true≢false (sym e))
+
 pub nothing-known-spec : {M : Type 1} → statement M
 nothing-known-spec =
     tie.close
     (tie.spec
+    enum-told
     nothing-left-requires
     none-known-requires
     none-known-requires-2
     none-known-requires-3
     returns
-    returns-2)
+    returns-2
+    returns-3)

@@ -1,4 +1,4 @@
--- `character_known::lost::nothing_left` meets its contract: each fact that is not unknown has left, and of the port no bit is known.
+-- `character_known::lost::nothing_left` meets its contract: each setting that is not unknown has left, of the port no bit is known, and of the position and the addresses nothing was.
 -- Assumes nothing.
 use mathlib.Core.Path.{refl, sym, ap, _∙_}
 use mathlib.Core.Bool.{true≢false}
@@ -7,7 +7,6 @@ use Rattle.standing.specs.View.{stands}
 use Rattle.lamps.specs.View.{shown}
 use Rattle.lamps.specs.Lamp.{none-shown}
 use Rattle.character.specs.Laws.{every}
-use Rattle.character_knowledge.specs.View.{points}
 use borrow.Author.Needs.{needs}
 use Rattle.character_known.proofs.lost.nothing_left.Statement.{statement}
 use Rattle.character_known.proofs.lost.nothing_left.Tie as tie
@@ -39,83 +38,11 @@ enum-told-6 c = search needs
 returns-3 : tie.Need-returns-3
 returns-3 c = λ e. absurd (true≢false (sym e))
 
-enum-told-7 : tie.Need-enum-told-7
-enum-told-7 c = search needs
-
-enum-told-8 : tie.Need-enum-told-8
-enum-told-8 c = search needs
-
 returns-4 : tie.Need-returns-4
-returns-4 c = λ e. absurd (true≢false (sym e))
-
-enum-told-9 : tie.Need-enum-told-9
-enum-told-9 c = search needs
-
-enum-told-10 : tie.Need-enum-told-10
-enum-told-10 c = search needs
-
-returns-5 : tie.Need-returns-5
-returns-5 c = λ e. absurd (true≢false (sym e))
-
-enum-told-11 : tie.Need-enum-told-11
-enum-told-11 c = search needs
-
-enum-told-12 : tie.Need-enum-told-12
-enum-told-12 c = search needs
-
-returns-6 : tie.Need-returns-6
-returns-6 c = λ e. absurd (true≢false (sym e))
-
-enum-told-13 : tie.Need-enum-told-13
-enum-told-13 c = search needs
-
-enum-told-14 : tie.Need-enum-told-14
-enum-told-14 c = search needs
-
-returns-7 : tie.Need-returns-7
-returns-7 c = λ e. absurd (true≢false (sym e))
-
-enum-told-15 : tie.Need-enum-told-15
-enum-told-15 c = search needs
-
-enum-told-16 : tie.Need-enum-told-16
-enum-told-16 c = search needs
-
-returns-8 : tie.Need-returns-8
-returns-8 c = λ e. absurd (true≢false (sym e))
-
-returns-9 : tie.Need-returns-9
-returns-9 c = λ e. every _ (λ i k. refl) (λ i k. refl) (λ i k. refl)
-    (ap points (c .before .before .before .before .before .before .before .before .before .before .before .before .before .enum-told3 .given .1)) (ap points (c .before .before .before .before .before .before .before .before .before .before .before .enum-told5 .given .1)) (ap points (c .before .before .before .before .before .before .before .before .before .enum-told7 .given .1))
-    (ap stands (c .before .before .before .before .before .before .before .enum-told9 .given .1)) (λ k. ap (λ n. shown 2 n k) (eqb-true _ 0 e) ∙ none-shown 2 k)
-    (ap stands (c .before .before .before .before .before .enum-told11 .given .1)) (ap stands (c .before .before .before .enum-told13 .given .1)) (ap stands (c .before .enum-told15 .given .1)) (ap stands (c .before .before .before .before .before .before .before .before .before .before .before .before .before .before .before .enum-told .given .1))
+returns-4 c = λ e.
+    let a = c .before .before .before .before .before .before .before .pre in
+    every _ (λ i k. refl) (λ i k. refl) (λ i k. refl) (a .shown) (a .drawn) (a .marked) (a .inside) (λ k. ap (λ n. shown 2 n k) (eqb-true _ 0 e) ∙ none-shown 2 k)
+    (ap stands (c .before .before .before .before .before .enum-told .given .1)) (ap stands (c .before .before .before .enum-told3 .given .1)) (ap stands (c .before .enum-told5 .given .1)) (a .here)
 
 pub nothing-left-spec : {M : Type 1} → statement M
-nothing-left-spec =
-    tie.close
-    (tie.spec
-    enum-told
-    enum-told-2
-    returns
-    enum-told-3
-    enum-told-4
-    returns-2
-    enum-told-5
-    enum-told-6
-    returns-3
-    enum-told-7
-    enum-told-8
-    returns-4
-    enum-told-9
-    enum-told-10
-    returns-5
-    enum-told-11
-    enum-told-12
-    returns-6
-    enum-told-13
-    enum-told-14
-    returns-7
-    enum-told-15
-    enum-told-16
-    returns-8
-    returns-9)
+nothing-left-spec = tie.close (tie.spec enum-told enum-told-2 returns enum-told-3 enum-told-4 returns-2 enum-told-5 enum-told-6 returns-3 returns-4)
