@@ -1,4 +1,4 @@
--- What a change does to a row of codes, what two changes have in common, and what a run of bytes does.
+-- What a change does to a row of codes, what is left of one that may have happened or not, and what a run of bytes does.
 use Prim.Native.Nat.{ℕ, zero, suc, _+_, _*_, _<_}
 use mathlib.Core.Path.{_≡_}
 use mathlib.Core.Bool.{Bool, false, _||_}
@@ -61,35 +61,3 @@ loose Keep = Keep
 loose (Put a b) = Meet a 1 1 b
 loose (Meet a by n b) = Meet a by n b
 loose Forget = Forget
-
--- What two changes have in common, where they can be told together: one of them keeps every code or forgets all, or both are the same.
-abbrev pub joinedWith : Change → Change → Change
-joinedWith x Keep = loose x
-joinedWith x (Put a b) = x
-joinedWith x (Meet a by n b) = x
-joinedWith x Forget = Forget
-
-abbrev pub joined : Change → Change → Change
-joined Keep y = loose y
-joined (Put a b) y = joinedWith (Put a b) y
-joined (Meet a by n b) y = joinedWith (Meet a by n b) y
-joined Forget y = Forget
-
-abbrev pub TogetherWith : Change → Change → Type 0
-TogetherWith x Keep = Unit
-TogetherWith x (Put a b) = x ≡ Put a b
-TogetherWith x (Meet a by n b) = x ≡ Meet a by n b
-TogetherWith x Forget = Unit
-
-abbrev pub Together : Change → Change → Type 0
-Together Keep y = Unit
-Together (Put a b) y = TogetherWith (Put a b) y
-Together (Meet a by n b) y = TogetherWith (Meet a by n b) y
-Together Forget y = Unit
-
--- Every code stays, or all are forgotten.
-abbrev pub Plain : Change → Type 0
-Plain Keep = Unit
-Plain (Put a b) = ⊥
-Plain (Meet a by n b) = ⊥
-Plain Forget = Unit

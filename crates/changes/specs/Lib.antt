@@ -1,3 +1,3 @@
 pub mod Change
-pub mod Together
+pub mod Laws
 pub mod Run

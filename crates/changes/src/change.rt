@@ -1,7 +1,7 @@
 // What an event does to a row of codes, as a small value: the row itself is changed once, where it stands.
 use terms::Address;
 ghost use mathlib.Core.Path.{_≡_};
-ghost use Rattle.changes.specs.Change.{loose, joined, joinedWith};
+ghost use Rattle.changes.specs.Change.{loose};
 
 pub enum Change {
     // Every code stays.
@@ -22,29 +22,6 @@ pub fn loosened(change: Change) -> Change
         Change::Keep => Change::Keep,
         Change::Put(cell, byte) => Change::Meet(cell, 1, 1, byte),
         Change::Meet(from, by, count, byte) => Change::Meet(from, by, count, byte),
-        Change::Forget => Change::Forget,
-    }
-}
-
-// What two changes have in common, where one of them keeps every code or forgets all, or both are the same.
-pub fn both_changes(a: Change, b: Change) -> Change
-    ensures { λ r. ⌜ r ≡ joined a b ⌝ }
-{
-    match a {
-        Change::Keep => loosened(b),
-        Change::Put(_, _) => with(a, b),
-        Change::Meet(_, _, _, _) => with(a, b),
-        Change::Forget => Change::Forget,
-    }
-}
-
-fn with(a: Change, b: Change) -> Change
-    ensures { λ r. ⌜ r ≡ joinedWith a b ⌝ }
-{
-    match b {
-        Change::Keep => loosened(a),
-        Change::Put(_, _) => a,
-        Change::Meet(_, _, _, _) => a,
         Change::Forget => Change::Forget,
     }
 }

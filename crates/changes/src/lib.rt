@@ -3,8 +3,8 @@ mod change;
 mod rows;
 
 pub use change::Change;
-pub use change::both_changes;
 pub use change::loosened;
+pub use rows::all_agree;
 pub use rows::forget;
 pub use rows::meet;
 pub use rows::meet_one;

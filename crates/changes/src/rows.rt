@@ -1,12 +1,14 @@
 // What is forgotten in a row of codes, where the row stands. `wide` has the bits of the width, as `lamps` has them.
+use lamps::EIGHT;
 use lamps::code_of;
 use lamps::meet_code;
 use terms::Address;
 ghost use mathlib.Core.Path.{_≡_};
+ghost use mathlib.Core.Bool.{true};
 ghost use Prim.Native.Nat.{ℕ, _+_, _*_, _<_};
 ghost use lib.ListN.{length};
 ghost use Rattle.knowing.specs.Standing.{unknown};
-ghost use Rattle.lamps.specs.View.{held, Wide};
+ghost use Rattle.lamps.specs.View.{held, met, Wide};
 ghost use Rattle.changes.specs.Change.{Changes, Met};
 ghost use Rattle.changes.specs.declared.change.Change.the-variants.{Meet};
 
@@ -55,4 +57,18 @@ pub fn forget(codes: &mut [u16])
         codes[i] = 0;
         i += 1;
     }
+}
+
+// Every bit of eight that is known of a code is that of the byte, so that wherever the byte went, it changes none. The loop stops nowhere, so that it can go over several codes at once.
+pub fn all_agree(codes: &[u16], byte: u8) -> bool
+    ensures { λ r. ⌜ (r ≡ true → (i k : ℕ) → held 8 (now (codes .entry)) i k ≡ met 8 byte k (held 8 (now (codes .entry)) i k)) ⌝ }
+{
+    let c = code_of(EIGHT, byte);
+    let mut agree = true;
+    let mut i = 0;
+    while i < codes.len() {
+        agree = agree & (meet_code(EIGHT, codes[i], c) == codes[i]);
+        i += 1;
+    }
+    agree
 }

@@ -9,7 +9,7 @@ use Rattle.rules.specs.Rule.{look}
 use Rattle.rules.specs.Change.{setBits}
 use Rattle.knowing.specs.Standing.{known}
 use Rattle.standing.specs.View.{stands}
-use Rattle.changes.specs.Together.{put-told}
+use Rattle.changes.specs.Laws.{put-told}
 use Rattle.terms.specs.declared.Event.the-variants.{ByteIn}
 use Rattle.character.specs.Fact.{same?, dcram, cgram, adram, dcramAt, cgramAt, adramAt, column, position}
 use Rattle.character.specs.Laws.{every, dcram-apart, cgram-apart, adram-apart}

@@ -14,14 +14,14 @@ use Rattle.rules.specs.Touch.{Leaves, change-leaves, bits-leave}
 use Rattle.knowing.specs.Standing.{Standing, known, unknown}
 use Rattle.knowing.specs.Know.{join, learn, lifted, common, know}
 use Rattle.knowing.specs.Join.{not-known, same-standing, join-other, join-not, join-nor, join-itself, join-late, join-both, join-known, common-apart}
-use Rattle.knowing.specs.Look.{look-known}
+use Rattle.knowing.specs.Look.{look-known, idle-ways}
 use Rattle.knowing.specs.Lost.{common-lost, know-leaves}
 use Rattle.standing.specs.View.{stands}
 use Rattle.standing.specs.declared.standing.Standing as Of
 use Rattle.standing.specs.declared.standing.Standing.the-variants.{Known, Unknown as NotKnown}
 use Rattle.changes.specs.declared.change.Change.{Change}
 use Rattle.changes.specs.Change.{seen, Inside, loose}
-use Rattle.changes.specs.Together.{loose-seen, loose-inside}
+use Rattle.changes.specs.Laws.{loose-seen, loose-inside}
 use Rattle.character.specs.declared.command.Command.{Command}
 use Rattle.character.specs.declared.command.Command.the-variants.{Undefined}
 use Rattle.character.specs.Command.{commandOf}
@@ -42,18 +42,6 @@ use Rattle.character_known.specs.Places.{placed, shown-at, marked-at, dr
 use Rattle.character_known.specs.Weakened.{metAt, metColumn, stays, Weakens}
 use Rattle.character_known.specs.Row.{ramOf, elsewhere}
 use Rattle.character_known.specs.Drawn.{column-next}
-
--- Idle and ignoring leave every fact as it is, and so have in common all that is known beside the position.
-idle-or-ignoring : (m : Memory) (c : Control) → stands (c .position) ≡ unknown
-    → (x : Fact) → cview m c x ≡ join (learn same? position 0 (cview m c) x) (learn same? position 5 (cview m c) x)
-idle-or-ignoring m c u x = go (same? x position)
-  where
-    other : _≡_ {A = ℕ} 0 5 → ⊥
-    other e = omega arith
-
-    go : (d : Dec (x ≡ position)) → cview m c x ≡ join (elim d [ yes e ↦ known 0 | no n ↦ cview m c x ]) (elim d [ yes e ↦ known 5 | no n ↦ cview m c x ])
-    go (yes e) = ap (cview m c) e ∙ u ∙ join-other (known 0) (known 5) 0 5 refl refl other
-    go (no n) = sym (join-itself (cview m c x))
 
 -- The last of six ways may come second.
 second-last : (a b p q r t : Standing) → join (join (join (join (join a b) p) q) r) t ≡ join (join (join (join (join a p) q) r) t) b
@@ -277,7 +265,7 @@ module _ (b : ℕ) (c : Control) where
     unfolding common
     anywhere r h =
         all-steps position (byteIn b) c 6 _ refl (λ m. u) (record {
-          gathers = λ m y. weaker r h m y ∙ ap (λ (s : Standing). all s (ways m y 1) (ways m y 2) (ways m y 3) (ways m y 4)) (idle-or-ignoring m c u y) ∙ second-last _ _ _ _ _ _;
+          gathers = λ m y. weaker r h m y ∙ ap (λ (s : Standing). all s (ways m y 1) (ways m y 2) (ways m y 3) (ways m y 4)) (idle-ways same? position (cview m c) 0 5 (λ e. omega arith) u y) ∙ second-last _ _ _ _ _ _;
           inside = (texts .inside, (draws .inside, marks .inside));
         })
 

@@ -10,7 +10,7 @@ use Rattle.knowing.specs.Know.{common, know}
 use Rattle.knowing.specs.Look.{look-unknown}
 use Rattle.lamps.specs.View.{met}
 use Rattle.changes.specs.Change.{among}
-use Rattle.changes.specs.Together.{met-or-not}
+use Rattle.changes.specs.Laws.{met-or-not}
 use Rattle.character.specs.Fact.{Fact, same?, range, dcram, cgram, adram, dcramAt, cgramAt, adramAt, column, port, duty, digits, lights, position}
 use Rattle.character.specs.Laws.{every, dcram-apart, adram-apart}
 use Rattle.character.specs.Move.{shown, marked}

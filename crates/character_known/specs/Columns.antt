@@ -8,7 +8,7 @@ use Rattle.rules.specs.Rule.{look}
 use Rattle.knowing.specs.Standing.{Standing, known, unknown}
 use Rattle.knowing.specs.Know.{join, common, know}
 use Rattle.knowing.specs.Look.{look-unknown}
-use Rattle.changes.specs.Together.{met-or-not}
+use Rattle.changes.specs.Laws.{met-or-not}
 use Rattle.character.specs.Fact.{Fact, same?, range, dcram, cgram, adram, dcramAt, cgramAt, adramAt, column, port, duty, digits, lights, position}
 use Rattle.character.specs.Laws.{every, cgram-apart}
 use Rattle.character.specs.Move.{drawn}

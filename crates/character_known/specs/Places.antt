@@ -13,7 +13,7 @@ use Rattle.standing.specs.declared.standing.Standing.{Standing}
 use Rattle.standing.specs.declared.standing.Standing.the-variants.{Known}
 use Rattle.changes.specs.declared.change.Change.{Change}
 use Rattle.changes.specs.declared.change.Change.the-variants.{Meet}
-use Rattle.changes.specs.Together.{put-told}
+use Rattle.changes.specs.Laws.{put-told}
 use Rattle.character.specs.Fact.{Fact, same?, dcram, cgram, adram, cgramAt, column}
 use Rattle.character.specs.Laws.{every, dcram-apart, cgram-apart, adram-apart}
 use Rattle.character.specs.Move.{shown, marked, drawn}

@@ -20,7 +20,7 @@ use Rattle.lamps.specs.View.{shown, OfByte, Meets}
 use Rattle.lamps.specs.Lamp.{wide2, byte-none-past, byte-met-code}
 use Rattle.changes.specs.declared.change.Change.{Change}
 use Rattle.changes.specs.declared.change.Change.the-variants.{Meet}
-use Rattle.changes.specs.Together.{met-told, bits-told}
+use Rattle.changes.specs.Laws.{met-told, bits-told}
 use Rattle.character.specs.declared.command.Command.{Command}
 use Rattle.character.specs.declared.command.Command.the-variants.{Dcram, Cgram, Adram, Port, Duty, Digits, Light, Nothing, Undefined}
 use Rattle.character.specs.Command.{Defined}

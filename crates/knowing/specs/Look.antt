@@ -1,10 +1,10 @@
 -- A look at a fact that is known, and at one that is not.
 use Prim.Native.Nat.{ℕ}
-use mathlib.Core.Path.{_≡_, refl, sym, _∙_, subst⁻¹}
+use mathlib.Core.Path.{_≡_, refl, sym, ap, _∙_, subst⁻¹}
 use Rattle.rules.specs.Rule.{Form, value, copy, free, Rule, gives, look}
 use Rattle.knowing.specs.Standing.{Standing, known, unknown}
-use Rattle.knowing.specs.Know.{lifted, learn, common, know}
-use Rattle.knowing.specs.Join.{common-ways}
+use Rattle.knowing.specs.Know.{lifted, learn, join, common, know}
+use Rattle.knowing.specs.Join.{common-ways, join-other, join-itself}
 
 module _ {F R : Type 0} (same? : Discrete F) (range : F → ℕ) (g : F) (κ : ℕ → Rule F R) (k : F → Standing) (r : R) where
   abbrev goes : Standing → Standing
@@ -41,3 +41,11 @@ module _ {F : Type 0} (same? : Discrete F) where
       go one each (known v) e = sym (look-known same? range g κ k r v _ e refl) ∙ one v ∙ look-known same? range g κ l r v _ (sym (h g) ∙ e) refl
       go one each unknown e =
           sym (look-unknown same? range g κ k r _ e refl) ∙ common-ways (range g) _ _ each ∙ look-unknown same? range g κ l r _ (sym (h g) ∙ e) refl
+
+-- Two ways of a look at an unknown fact that do nothing have in common all that is known.
+pub idle-ways : {F : Type 0} (same? : Discrete F) (g : F) (k : F → Standing) (v w : ℕ) → ¬ (v ≡ w) → k g ≡ unknown → (f : F) → k f ≡ join (learn same? g v k f) (learn same? g w k f)
+idle-ways same? g k v w n u f = go (same? f g)
+  where
+    go : (d : Dec (f ≡ g)) → k f ≡ join (elim d [ yes e ↦ known v | no n ↦ k f ]) (elim d [ yes e ↦ known w | no n ↦ k f ])
+    go (yes e) = ap k e ∙ u ∙ join-other (known v) (known w) v w refl refl n
+    go (no m) = sym (join-itself (k f))

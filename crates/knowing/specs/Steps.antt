@@ -1,10 +1,10 @@
 -- Knowledge told in two: a value of K, which is handed on, and a memory of M, which stands elsewhere. A step of A says what becomes of both. The argument: what holds of
 -- the ways of a look for every memory holds of the step that gathers them.
-use Prim.Native.Nat.{ℕ, suc}
+use Prim.Native.Nat.{ℕ}
 use mathlib.Core.Path.{_≡_, subst⁻¹}
 use Rattle.rules.specs.Rule.{Rule, look}
 use Rattle.knowing.specs.Standing.{Standing, known, unknown}
-use Rattle.knowing.specs.Ways.{Knows, Learns, Joins, Way, Gathers, way, known-way, first-way, next-way, all-ways}
+use Rattle.knowing.specs.Ways.{Knows, Learns, Way, Gathers, way, known-way, all-ways}
 
 -- `view` reads what is known before, and `out` what is known after a step, by what was known of the memory before it.
 module _ {F K A M : Type 0} (view : M → K → F → Standing) (out : M → A → F → Standing) (Inside : A → Type 0) (same? : Discrete F) (range : F → ℕ) where
@@ -36,15 +36,6 @@ module _ {F K A M : Type 0} (view : M → K → F → Standing) (out : M → A �
 
     pub goes : {r : A} (v : ℕ) (l : K) → Learnt g v c l → Steps (κ v) l r → Goes v r
     goes {r} v l e h = record { ways = λ m. way (view m) (out m) same? range (κ v) c l r g v (e m) (h .knows m); inside = h .inside }
-
-    pub step-first : {r : A} → Goes 0 r → Gathered 1 r
-    step-first {r} h = record { gathers = λ m. first-way (view m) (out m) same? range g κ c r (h .ways m); inside = h .inside }
-
-    pub step-next : {a b r : A} (n : ℕ) → ((m : M) → Joins (out m) a b r) → (Inside a → Inside b → Inside r) → Gathered (suc n) a → Goes (suc n) b → Gathered (suc (suc n)) r
-    step-next {a} {b} {r} n j i h p = record {
-      gathers = λ m. next-way (view m) (out m) same? range g κ c n a b r (j m) (h .gathers m) (p .ways m);
-      inside = i (h .inside) (p .inside);
-    }
 
     pub step-all : {r : A} (n : ℕ) → range g ≡ n → ((m : M) → view m c g ≡ unknown) → Gathered n r → Steps (look g κ) c r
     step-all {r} n e u h = record { knows = λ m. all-ways (view m) (out m) same? range g κ c n r e (u m) (h .gathers m); inside = h .inside }

@@ -42,7 +42,7 @@ lamps-more w l n a b all one = record {
 }
 
 -- Where the row ends, nothing is known.
-row-end : (w : ℕ) (l : List ℕ) (i k : ℕ) → length l ≤ i → held w l i k ≡ unknown
+pub row-end : (w : ℕ) (l : List ℕ) (i k : ℕ) → length l ≤ i → held w l i k ≡ unknown
 row-end w l i k h = ap (λ (c : ℕ). shown w c k) (List·getD-eq-default l 0 h) ∙ none-shown w k
 
 pub whole-lamps : (w : ℕ) (l : List ℕ) (n : ℕ) → length l ≡ n → LampsSound w l n → (i k : ℕ) → Within 2 (held w l i k)

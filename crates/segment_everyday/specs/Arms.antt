@@ -122,8 +122,8 @@ module _ (part : Part) (p : Family) (l : List ℕ) (first : Knowledge) where
   passes i n cells c run deaf h = ran i n cells cells c c (λ j. cview (held cells) c) run (h .size) (λ f. refl) (λ f. refl) (λ j o. deaf (byteOf l i j)) h
 
   -- The same of a run of which each byte changes nothing.
-  pub stays : (i n : ℕ) (cells : List ℕ) (c : Control) → Stills p c l i n → Here i cells c → Here (i + 2 * n) cells c
-  stays i n cells c s h = ran i n cells cells c c (λ j. cview (held cells) c) (s .run) (h .size) (λ f. refl) (λ f. refl) (λ j o. s .each j o .knows (held cells)) h
+  pub stays : (i n : ℕ) (cells : List ℕ) (c : Control) → Stills p c cells l i n → Here i cells c → Here (i + 2 * n) cells c
+  stays i n cells c s h = ran i n cells cells c c (λ j. cview (held cells) c) (s .run) (h .size) (λ f. refl) (λ f. refl) (λ j o. s .each j o) h
 
   -- A run that is stored.
   pub stores : (i n to : ℕ) (old new : List ℕ) (c r : Control) → Counting (sizes p) c to → PutsRun 65535 to (sizes p .cells) l i old n new → length new ≡ 36 → r ≡ pointing c (ring (sizes p) (to + n))

@@ -150,7 +150,7 @@ pub fn everyday_walk(
                         if nothing_left(control) && none_known(cells) {
                             i += 2 * passed(bytes, at);
                         } else {
-                            let count = still(family, control, bytes, at);
+                            let count = still(family, control, cells, bytes, at);
                             if 0 < count {
                                 i += 2 * count;
                             } else {

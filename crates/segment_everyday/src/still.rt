@@ -9,9 +9,9 @@ ghost use lib.ListN.{length};
 ghost use Rattle.segment_everyday.specs.Still.{Stills};
 
 // How many such records there are in a row. The loop is by itself, since the compiler then reads what is known once for the whole run.
-pub fn still(family: Family, c: Control, bytes: &[u8], at: Place) -> usize
+pub fn still(family: Family, c: Control, cells: &[u16], bytes: &[u8], at: Place) -> usize
     requires { ⌜ at .0 ≤ length (now bytes) ⌝ }
-    ensures { λ r. ⌜ Stills family c (now (bytes .entry)) (at .0) r ⌝ }
+    ensures { λ r. ⌜ Stills family c (now (cells .entry)) (now (bytes .entry)) (at .0) r ⌝ }
 {
     let position = c.position;
     let Standing::Unknown = position else {
@@ -25,7 +25,7 @@ pub fn still(family: Family, c: Control, bytes: &[u8], at: Place) -> usize
         if bytes[k] != 3 {
             return j;
         }
-        if !unmoved(family, c, bytes[k + 1]) {
+        if !unmoved(family, c, cells, bytes[k + 1]) {
             return j;
         }
         j += 1;

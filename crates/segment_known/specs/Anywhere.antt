@@ -3,23 +3,27 @@
 use Prim.Native.Nat.{ℕ, _≤_}
 use native.Mathlib.Omega.{arith}
 use mathlib.Core.Path.{_≡_, refl, sym, ap, ap₂, _∙_, subst⁻¹}
+use mathlib.Core.Bool.{Bool, true, false}
+use mathlib.Core.List.{List}
 use borrow.Author.Tests.{eq-eqb}
+use Rattle.rules.specs.Choice.{whether}
 use Rattle.rules.specs.Rule.{look}
 use Rattle.knowing.specs.Standing as Of
 use Rattle.knowing.specs.Standing.{known, unknown}
 use Rattle.knowing.specs.Know.{learn, join, common, know}
-use Rattle.knowing.specs.Join.{join-other, join-itself, join-late, join-not, join-nor}
-use Rattle.knowing.specs.Look.{know-same}
+use Rattle.knowing.specs.Join.{join-itself, join-late, join-not, join-nor}
+use Rattle.knowing.specs.Look.{know-same, idle-ways}
 use Rattle.knowing.specs.Steps.{step-all}
 use Rattle.standing.specs.View.{stands}
 use Rattle.standing.specs.declared.standing.Standing.{Standing}
 use Rattle.standing.specs.declared.standing.Standing.the-variants.{Known, Unknown}
-use Rattle.lamps.specs.View.{shown}
+use Rattle.lamps.specs.View.{shown, met}
 use Rattle.lamps.specs.Lamp.{none-shown}
 use Rattle.changes.specs.declared.change.Change.{Change}
-use Rattle.changes.specs.declared.change.Change.the-variants.{Keep, Forget}
-use Rattle.changes.specs.Change.{seen, Inside, loose}
-use Rattle.changes.specs.Together.{loose-seen, loose-inside}
+use Rattle.changes.specs.declared.change.Change.the-variants.{Meet, Forget}
+use Rattle.changes.specs.Change.{among, seen, Inside, loose}
+use Rattle.changes.specs.Laws.{loose-seen, loose-inside}
+use Rattle.terms.specs.declared.Address.{Address}
 use Rattle.segment.specs.declared.chip.Family.{Family}
 use Rattle.segment.specs.declared.chip.Data.{Data}
 use Rattle.segment.specs.declared.chip.Display.{Display}
@@ -30,16 +34,16 @@ use Rattle.segment.specs.declared.command.Command.{Command}
 use Rattle.segment.specs.declared.command.Command.the-variants.{Mode, Test, Setting, AnySetting, Control as Controls, Start}
 use Rattle.segment.specs.Command.{commandOf}
 use Rattle.segment.specs.Family.{sizes}
-use Rattle.segment.specs.Fact.{Fact, same?, range, dataMode, mode, position}
+use Rattle.segment.specs.Fact.{Fact, same?, range, cell, address, dataMode, stepping, mode, dimming, display, led, key, switches, readCount, position}
 use Rattle.segment.specs.Laws.{every, led-tested}
 use Rattle.segment.specs.Value.{pointer, data-mode, steps, shows}
 use Rattle.segment.specs.Move.{written, toMode, commanded, byteIn}
 use Rattle.segment_knowledge.specs.declared.control.Control.{Control}
 use Rattle.segment_knowledge.specs.declared.control.Pointing.{Pointing}
 use Rattle.segment_knowledge.specs.declared.control.Pointing.the-variants.{Unknown as Anywhere}
-use Rattle.segment_knowledge.specs.View.{points, cview}
+use Rattle.segment_knowledge.specs.View.{points, held, cview}
 use Rattle.segment_steps.specs.declared.steps.Step.{Step}
-use Rattle.segment_steps.specs.Step.{sview, StaysInside, Steps, keptOf}
+use Rattle.segment_steps.specs.Step.{sview, StaysInside, Steps}
 use Rattle.segment_known.specs.declared.bytes.Written.{Written}
 use Rattle.segment_known.specs.Ways.{displayIn, inMode, mode-set, mode-small, top-room}
 use Rattle.segment_known.specs.Writes.{writing, placed, Writes}
@@ -65,18 +69,6 @@ twice t s w e = e ∙ ap (λ (x : Of.Standing). join x w) (sym (join-itself s))
 
 thrice : (s : Of.Standing) → s ≡ join (join s s) s
 thrice s = again s s s (sym (join-itself s))
-
--- Idle and ignoring leave every fact as it is, and so have in common all that is known beside the position.
-idle-or-ignoring : (cells : ℕ → ℕ → Of.Standing) (c : Control) → stands (c .position) ≡ unknown
-    → (x : Fact) → cview cells c x ≡ join (learn same? position 0 (cview cells c) x) (learn same? position 3 (cview cells c) x)
-idle-or-ignoring cells c u x = go (same? x position)
-  where
-    other : _≡_ {A = ℕ} 0 3 → ⊥
-    other e = omega arith
-
-    go : (d : Dec (x ≡ position)) → cview cells c x ≡ join (elim d [ yes e ↦ known 0 | no n ↦ cview cells c x ]) (elim d [ yes e ↦ known 3 | no n ↦ cview cells c x ])
-    go (yes e) = ap (cview cells c) e ∙ u ∙ join-other (known 0) (known 3) 0 3 refl refl other
-    go (no n) = sym (join-itself (cview cells c x))
 
 -- Of four ways, the last two of which are the third and the second, the second may come last.
 in-order : (a b p q : Of.Standing) → join (join (join a b) q) p ≡ join (join (join a p) q) b
@@ -124,7 +116,7 @@ module _ (p : Family) (b : ℕ) (c : Control) (u : stands (c .position) ≡ unkn
         gathered : (cells : ℕ → ℕ → Of.Standing) (y : Fact) → sview cells r y ≡ common 4 (λ n. know same? (range (sizes p)) (byteIn (sizes p) b n) (learn same? position n (cview cells c)) y)
         gathered cells y =
             joins cells y
-            ∙ ap₂ join (ap₂ join (idle-or-ignoring cells c u y) (second cells y)) (goes cells y ∙ ap (λ (n : Command). commandedAs p n c cells y) is)
+            ∙ ap₂ join (ap₂ join (idle-ways same? position (cview cells c) 0 3 (λ e. omega arith) u y) (second cells y)) (goes cells y ∙ ap (λ (n : Command). commandedAs p n c cells y) is)
             ∙ in-order _ _ _ _
 
   lost : (w : Of.Standing) → stands (c .position) ≡ join (join (stands (c .position)) (known 2)) w
@@ -188,13 +180,21 @@ pub perhaps-as : (P : Step → Type 0) (c : Control) {x x' : Change} {a a' : Poi
     → P (made c x' a' l' d' i' m' o' v' n') → P (made c x a l d i m o v n)
 perhaps-as P c ea el ex ed ei em eo ev en h = rw (ea, el, ex, ed, ei, em, eo, ev, en) h
 
--- As data the byte b leaves all as it is.
-pub record Quiet (p : Family) (b : ℕ) (c : Control) : Type 0 where
+-- As data the byte b leaves all as it is, where these are the cells.
+pub record Quiet (p : Family) (b : ℕ) (c : Control) (row : List ℕ) : Type 0 where
   pub next : Written
   pub data-in : Writes (sizes p) b c next
-  pub kept : Keep ≡ loose (next .change)
+  pub kept : (i k : ℕ) → held row i k ≡ seen 8 (loose (next .change)) i k (held row i k)
   pub pointed : points (c .address) ≡ join (points (c .address)) (points (next .address))
   pub lit : (k : ℕ) → shown 4 (c .led) k ≡ join (shown 4 (c .led) k) (shown 4 (next .led) k)
+
+-- Cells that agree with the byte of a change keep what they have.
+pub met-kept : (row : List ℕ) (from : Address) (by n b : ℕ) → ((i k : ℕ) → held row i k ≡ met 8 b k (held row i k)) → (i k : ℕ) → held row i k ≡ seen 8 (Meet from by n b) i k (held row i k)
+met-kept row from by n b h i k = go (among (from .0) by n i)
+  where
+    go : (t : Bool) → held row i k ≡ whether t (met 8 b k (held row i k)) (held row i k)
+    go true = h i k
+    go false = refl
 
 -- A mode command leaves mode and display.
 abbrev pub StaysModed : Of.Standing → ℕ → Of.Standing → Type 0
@@ -216,16 +216,32 @@ unfolding said
 said-so (known v) = refl
 said-so unknown = refl
 
--- So all is as it was where the command, too, leaves all that it would set.
-module _ (p : Family) (b : ℕ) (c : Control) (u : stands (c .position) ≡ unknown) (q : Quiet p b c) where
-  pub unmoved-mode : (n : ℕ) → Mode n ≡ commandOf (sizes p) b → StaysModed (stands (c .mode)) n (stands (c .display)) → Steps (sizes p) (look position (byteIn (sizes p) b)) c (keptOf c)
+-- The byte b, at an unknown position, leaves all that is known as it is.
+abbrev pub Unmoved : Family → ℕ → Control → List ℕ → Type 0
+Unmoved p b c row = (f : Fact) → cview (held row) c f ≡ know same? (range (sizes p)) (look position (byteIn (sizes p) b)) (cview (held row) c) f
+
+-- So it is where the command, too, leaves all that it would set.
+module _ (p : Family) (b : ℕ) (c : Control) (row : List ℕ) (u : stands (c .position) ≡ unknown) (q : Quiet p b c row) where
+  left : Step
+  left = made c (loose (q .next .change)) (c .address) (c .led) (c .«data») (c .stepping) (c .mode) (c .dimming) (c .display) (c .count)
+
+  as-it-was : Steps (sizes p) (look position (byteIn (sizes p) b)) c left → Unmoved p b c row
+  unfolding left
+  as-it-was h =
+      let e = h .knows (held row) in
+      every _ (λ i k. q .kept i k ∙ e (cell i k)) (e address) (e dataMode) (e stepping) (e mode) (e dimming) (e display) (λ k. e (led k)) (λ i. e (key i)) (e switches) (e readCount) (e position)
+
+  pub unmoved-mode : (n : ℕ) → Mode n ≡ commandOf (sizes p) b → StaysModed (stands (c .mode)) n (stands (c .display)) → Unmoved p b c row
+  unfolding left
   unmoved-mode n is h =
       let dark = displayIn (stands (c .mode)) n (stands (c .display)) in
-      perhaps-mode p b c u (q .next) (q .data-in) Keep (c .address) (c .led) (q .kept) (q .pointed) (q .lit) n (said dark) (c .mode) (c .display) is (said-so dark) (h .0) (h .1 ∙ ap (join (stands (c .display))) (sym (said-so dark)))
+      as-it-was (perhaps-mode p b c u (q .next) (q .data-in) _ (c .address) (c .led) refl (q .pointed) (q .lit) n (said dark) (c .mode) (c .display) is (said-so dark) (h .0) (h .1 ∙ ap (join (stands (c .display))) (sym (said-so dark))))
 
   pub unmoved-control : (n : ℕ) (o : Display) → Controls n o ≡ commandOf (sizes p) b → stands (c .dimming) ≡ join (stands (c .dimming)) (known n) → stands (c .display) ≡ join (stands (c .display)) (known (shows o))
-      → Steps (sizes p) (look position (byteIn (sizes p) b)) c (keptOf c)
-  unmoved-control n o is = perhaps-control p b c u (q .next) (q .data-in) Keep (c .address) (c .led) (q .kept) (q .pointed) (q .lit) n o (c .dimming) (c .display) is
+      → Unmoved p b c row
+  unfolding left
+  unmoved-control n o is h v = as-it-was (perhaps-control p b c u (q .next) (q .data-in) _ (c .address) (c .led) refl (q .pointed) (q .lit) n o (c .dimming) (c .display) is h v)
 
-  pub unmoved-start : (to : Pointer) → Start to ≡ commandOf (sizes p) b → points (c .address) ≡ unknown → Steps (sizes p) (look position (byteIn (sizes p) b)) c (keptOf c)
-  unmoved-start to is v = perhaps-start p b c u (q .next) (q .data-in) Keep (c .address) (c .led) (q .kept) (q .pointed) (q .lit) to (c .address) is (v ∙ join-not _ _ v)
+  pub unmoved-start : (to : Pointer) → Start to ≡ commandOf (sizes p) b → points (c .address) ≡ unknown → Unmoved p b c row
+  unfolding left
+  unmoved-start to is v = as-it-was (perhaps-start p b c u (q .next) (q .data-in) _ (c .address) (c .led) refl (q .pointed) (q .lit) to (c .address) is (v ∙ join-not _ _ v))

@@ -22,7 +22,7 @@ use Rattle.segment.specs.Move.{sets, stored, keysLatched}
 use Rattle.segment_knowledge.specs.declared.control.Control.{Control}
 use Rattle.changes.specs.declared.change.Change.the-variants.{Meet}
 use Rattle.changes.specs.Change.{seen}
-use Rattle.changes.specs.Together.{met-or-not}
+use Rattle.changes.specs.Laws.{met-or-not}
 use Rattle.segment_steps.specs.Step.{sview, Steps}
 use Rattle.key_codes.specs.View.{coded}
 use Rattle.segment_knowledge.specs.View.{points, cview}

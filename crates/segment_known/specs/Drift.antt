@@ -14,7 +14,7 @@ use Rattle.knowing.specs.Look.{look-known, look-unknown}
 use Rattle.lamps.specs.View.{told, met}
 use Rattle.changes.specs.declared.change.Change.the-variants.{Meet}
 use Rattle.changes.specs.Change.{among, seen, metRun}
-use Rattle.changes.specs.Together.{met-told, loose-seen, bits-told}
+use Rattle.changes.specs.Laws.{met-told, loose-seen, bits-told}
 use Rattle.segment.specs.declared.chip.Sizes.{Sizes}
 use Rattle.segment.specs.declared.chip.Family.{Family}
 use Rattle.segment.specs.declared.chip.Position.the-variants.{Open}

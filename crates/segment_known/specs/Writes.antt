@@ -24,7 +24,7 @@ use Rattle.lamps.specs.Lamp.{wide4, byte-none-past, byte-met-code}
 use Rattle.changes.specs.declared.change.Change.{Change}
 use Rattle.changes.specs.declared.change.Change.the-variants.{Keep, Put, Meet}
 use Rattle.changes.specs.Change.{seen, Inside, loose}
-use Rattle.changes.specs.Together.{put-told, met-told, loose-seen, loose-inside, bits-told, code-told}
+use Rattle.changes.specs.Laws.{put-told, met-told, loose-seen, loose-inside, bits-told, code-told}
 use Rattle.terms.specs.declared.Address.{Address}
 use Rattle.segment.specs.declared.chip.Sizes.{Sizes}
 use Rattle.segment.specs.declared.chip.Family.{Family}
@@ -43,6 +43,7 @@ use Rattle.segment_steps.specs.declared.steps.Step.{Step}
 use Rattle.segment_steps.specs.Step.{sview, Steps}
 use Rattle.segment_steps.specs.StepLaws.{as-steps, kept-steps}
 use Rattle.segment_steps.specs.StepWays.{step-known}
+use Rattle.segment_known.specs.Cells.{somewhere-steps}
 use Rattle.segment_known.specs.Ways.{other-written}
 
 -- The same with another address and another LED.
@@ -108,12 +109,16 @@ unfolding setBits
 lit-told c b light h cells =
     every _ (λ i k. refl) refl refl refl refl refl refl (λ k. code-told same? led leds-apart (cview cells c) 4 3855 b (c .led) light k wide4 refl h) (λ i. refl) refl refl refl
 
--- A data byte that goes to the LED, or nowhere.
+-- A data byte that goes to the LED, nowhere, or to any cell.
 pub writes-led : (s : Sizes) (c : Control) (b light : ℕ) → stands (c .«data») ≡ known 1 → Puts 3855 b (c .led) light → Writes s b c (record { address = c .address; led = light; change = Keep })
 writes-led s c b light w h q = step-known s dataMode (written s b) (placed c q) 1 (λ cells. w) (kept-steps refl (lit-told (placed c q) b light h))
 
 pub writes-none : (s : Sizes) (c : Control) (b m : ℕ) → stands (c .«data») ≡ known m → ¬ (m ≡ 0) → ¬ (m ≡ 1) → Writes s b c (record { address = c .address; led = c .led; change = Keep })
 writes-none s c b m w other more q = step-known s dataMode (written s b) (placed c q) m (λ cells. w) (as-steps (other-written _ _ m other more) (kept-steps refl (λ cells f. refl)))
+
+pub writes-anywhere : (p : Family) (c : Control) (b : ℕ) → stands (c .«data») ≡ known 0 → points (c .address) ≡ unknown
+    → Writes (sizes p) b c (record { address = c .address; led = c .led; change = Meet (record { 0 = 0 }) 1 (sizes p .cells) b })
+writes-anywhere p c b w u q = step-known (sizes p) dataMode (written (sizes p) b) (placed c q) 0 (λ cells. w) (somewhere-steps p (placed c q) b u)
 
 pub met-led : (b code old light : ℕ) → OfByte 4 b code → Meets 3855 code old light → (k : ℕ) → shown 4 light k ≡ met 4 b k (shown 4 old k)
 met-led b code old light o h k = h 4 wide4 (byte-none-past 4 b code o) k ∙ byte-met-code 4 b code o k (shown 4 old k)

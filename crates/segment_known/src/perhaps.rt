@@ -6,6 +6,7 @@ use crate::commanded::display_number;
 use crate::commanded::known_pointing;
 use crate::commanded::step_number;
 use changes::Change;
+use changes::all_agree;
 use changes::loosened;
 use lamps::FOUR;
 use lamps::both_lamps;
@@ -31,8 +32,8 @@ ghost use Rattle.standing.specs.View.{stands};
 ghost use Rattle.segment.specs.Fact.{position};
 ghost use Rattle.segment.specs.Family.{sizes};
 ghost use Rattle.segment.specs.Move.{byteIn};
-ghost use Rattle.segment_steps.specs.Step.{Steps, keptOf};
-ghost use Rattle.segment_known.specs.Anywhere.{Quiet, StaysModed};
+ghost use Rattle.segment_steps.specs.Step.{Steps};
+ghost use Rattle.segment_known.specs.Anywhere.{Quiet, StaysModed, Unmoved};
 
 pub fn perhaps_in(family: Family, c: Control, byte: u8) -> Step
     requires { ⌜ stands (c .position) ≡ unknown ⌝ }
@@ -110,11 +111,11 @@ fn perhaps(s: Standing, v: u8) -> Standing
 
 // At an unknown position this byte changes nothing that is known: as data it leaves all as it is, and what it would set as a command is unknown or has that value already. A data setting, and what may
 // forget more, counts as one that changes something.
-pub fn unmoved(family: Family, c: Control, byte: u8) -> bool
+pub fn unmoved(family: Family, c: Control, cells: &[u16], byte: u8) -> bool
     requires { ⌜ stands (c .position) ≡ unknown ⌝ }
-    ensures { λ r. ⌜ (r ≡ true → Steps (sizes family) (look position (byteIn (sizes family) byte)) c (keptOf c)) ⌝ }
+    ensures { λ r. ⌜ (r ≡ true → Unmoved family byte c (now (cells .entry))) ⌝ }
 {
-    if !stays_lit(family, c, byte) {
+    if !quiet(family, c, cells, byte) {
         return false;
     }
     let display = c.display;
@@ -144,16 +145,22 @@ pub fn unmoved(family: Family, c: Control, byte: u8) -> bool
     }
 }
 
-// As data the byte goes to the LED, which has what it says, or nowhere.
-fn stays_lit(family: Family, c: Control, byte: u8) -> bool
-    ensures { λ r. ⌜ (r ≡ true → Quiet family byte c) ⌝ }
+// As data the byte goes to a cell, and whichever it is, the cells have what it says; or to the LED, which has that; or nowhere.
+fn quiet(family: Family, c: Control, cells: &[u16], byte: u8) -> bool
+    ensures { λ r. ⌜ (r ≡ true → Quiet family byte c (now (cells .entry))) ⌝ }
 {
     let data = c.data;
     let Standing::Known(to) = data else {
         return false;
     };
     match to {
-        WRITE_DISPLAY => false,
+        WRITE_DISPLAY => {
+            let address = c.address;
+            let Pointing::Unknown = address else {
+                return false;
+            };
+            all_agree(cells, byte)
+        }
         WRITE_LED => {
             let led = c.led;
             both_lamps(led, put_byte(FOUR, led, byte)) == led

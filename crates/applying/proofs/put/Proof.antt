@@ -1,6 +1,6 @@
 -- `applying::put` meets its contract: the code at the place has the byte put, and the others are as they were. Assumes nothing.
 use Rattle.lamps.specs.View.{told}
-use Rattle.changes.specs.Together.{set-seen}
+use Rattle.changes.specs.Laws.{set-seen}
 use borrow.Author.Needs.{needs}
 use Rattle.applying.proofs.put.Statement.{statement}
 use Rattle.applying.proofs.put.Tie as tie

@@ -451,39 +451,39 @@ still-requires : tie.Need-still-requires Inv-loop μ-loop
 still-requires c κs = search needs
 
 mul-i-7 : tie.Need-mul-i-7 Inv-loop μ-loop
-mul-i-7 c = record { fits = omega (arith, c .before .still .ensures .run .fits, c .before .before .before .before .before .before .before .before .before .before .before .before .before .before .before .before .good .1 .1 .1 .0) }
+mul-i-7 c = record { fits = omega (arith, c .before .still .ensures .run .fits, c .before .before .before .before .before .before .before .before .before .before .before .before .before .before .before .before .before .good .1 .1 .1 .0) }
 
 add-i-13 : tie.Need-add-i-13 Inv-loop μ-loop
-add-i-13 c = record { fits = omega (arith, c .before .still .ensures .run .fits, c .before .before .before .before .before .before .before .before .before .before .before .before .before .before .before .before .good .1 .1 .1 .0) }
+add-i-13 c = record { fits = omega (arith, c .before .still .ensures .run .fits, c .before .before .before .before .before .before .before .before .before .before .before .before .before .before .before .before .before .good .1 .1 .1 .0) }
 
 loop-less-13 : tie.Need-loop-less-13 Inv-loop μ-loop
 loop-less-13 c = omega (arith, c .before .still .ensures .run .fits, c .if5 .taken)
 
 loop-again-13 : tie.Need-loop-again-13 Inv-loop μ-loop
-loop-again-13 c = let a = c .before .before .before .before .before .before .before .before .before .before .before .before .before .before .before .before .args in
-    let at = c .before .before .before .before .before .before .before .before .before .before .before .before .loop in
+loop-again-13 c = let a = c .before .before .before .before .before .before .before .before .before .before .before .before .before .before .before .before .before .args in
+    let at = c .before .before .before .before .before .before .before .before .before .before .before .before .before .loop in
     goes-on (at .inv) (omega arith) (c .before .still .ensures .run .fits) (at .inv .size) (λ part first. stays part (a .family) (a .bytes .now) first (at .i) _ (at .cells) (at .control) (c .before .still .ensures))
 
 taken-requires : tie.Need-taken-requires Inv-loop μ-loop
 taken-requires c κs = search needs
 
 add-i-14 : tie.Need-add-i-14 Inv-loop μ-loop
-add-i-14 c = let a = c .before .before .before .before .before .before .before .before .before .before .before .before .before .before .before .before .before .before .before .before .args in
-    let at = c .before .before .before .before .before .before .before .before .before .before .before .before .before .before .before .before .loop in
-    let there = shown-as (a .bytes .now) (at .i) (c .before .before .before .before .before .before .before .before .before .before .before .before .record2 .given .1) (c .before .before .before .before .before .before .before .before .before .before .before .before .before .before .everyday-at .ensures) .there in
-    record { fits = omega (arith, there, c .before .before .before .before .before .before .before .before .before .before .before .before .before .before .before .before .before .before .before .before .good .1 .1 .1 .0) }
+add-i-14 c = let a = c .before .before .before .before .before .before .before .before .before .before .before .before .before .before .before .before .before .before .before .before .before .args in
+    let at = c .before .before .before .before .before .before .before .before .before .before .before .before .before .before .before .before .before .loop in
+    let there = shown-as (a .bytes .now) (at .i) (c .before .before .before .before .before .before .before .before .before .before .before .before .before .record2 .given .1) (c .before .before .before .before .before .before .before .before .before .before .before .before .before .before .before .everyday-at .ensures) .there in
+    record { fits = omega (arith, there, c .before .before .before .before .before .before .before .before .before .before .before .before .before .before .before .before .before .before .before .before .before .good .1 .1 .1 .0) }
 
 loop-less-14 : tie.Need-loop-less-14 Inv-loop μ-loop
-loop-less-14 c = let a = c .before .before .before .before .before .before .before .before .before .before .before .before .before .before .before .before .before .before .before .before .args in
-    let at = c .before .before .before .before .before .before .before .before .before .before .before .before .before .before .before .before .loop in
-    let there = shown-as (a .bytes .now) (at .i) (c .before .before .before .before .before .before .before .before .before .before .before .before .record2 .given .1) (c .before .before .before .before .before .before .before .before .before .before .before .before .before .before .everyday-at .ensures) .there in
+loop-less-14 c = let a = c .before .before .before .before .before .before .before .before .before .before .before .before .before .before .before .before .before .before .before .before .before .args in
+    let at = c .before .before .before .before .before .before .before .before .before .before .before .before .before .before .before .before .before .loop in
+    let there = shown-as (a .bytes .now) (at .i) (c .before .before .before .before .before .before .before .before .before .before .before .before .before .record2 .given .1) (c .before .before .before .before .before .before .before .before .before .before .before .before .before .before .before .everyday-at .ensures) .there in
     omega (arith, there)
 
 loop-again-14 : tie.Need-loop-again-14 Inv-loop μ-loop
-loop-again-14 c = let a = c .before .before .before .before .before .before .before .before .before .before .before .before .before .before .before .before .before .before .before .before .args in
-    let at = c .before .before .before .before .before .before .before .before .before .before .before .before .before .before .before .before .loop in
-    let b = shown-as (a .bytes .now) (at .i) (c .before .before .before .before .before .before .before .before .before .before .before .before .record2 .given .1) (c .before .before .before .before .before .before .before .before .before .before .before .before .before .before .everyday-at .ensures) in
-    goes-on (at .inv) (omega arith) (omega (arith, b .there)) (c .before .cells6 .given ∙ at .inv .size) (λ part first. takes part (a .family) (a .bytes .now) first (at .i) 2 (ByteIn (c .before .before .before .before .before .before .before .before .before .before .before .before .record2 .given .0 .0)) (at .cells) _ (at .control) _ (omega (arith, b .there)) (byte-is part (a .bytes .now) (at .i) _ b) (c .before .cells6 .given ∙ at .inv .size) (c .before .before .taken .ensures))
+loop-again-14 c = let a = c .before .before .before .before .before .before .before .before .before .before .before .before .before .before .before .before .before .before .before .before .before .args in
+    let at = c .before .before .before .before .before .before .before .before .before .before .before .before .before .before .before .before .before .loop in
+    let b = shown-as (a .bytes .now) (at .i) (c .before .before .before .before .before .before .before .before .before .before .before .before .before .record2 .given .1) (c .before .before .before .before .before .before .before .before .before .before .before .before .before .before .before .everyday-at .ensures) in
+    goes-on (at .inv) (omega arith) (omega (arith, b .there)) (c .before .cells6 .given ∙ at .inv .size) (λ part first. takes part (a .family) (a .bytes .now) first (at .i) 2 (ByteIn (c .before .before .before .before .before .before .before .before .before .before .before .before .before .record2 .given .0 .0)) (at .cells) _ (at .control) _ (omega (arith, b .there)) (byte-is part (a .bytes .now) (at .i) _ b) (c .before .cells6 .given ∙ at .inv .size) (c .before .before .taken .ensures))
 
 enum-told-10 : tie.Need-enum-told-10 Inv-loop μ-loop
 enum-told-10 c = search needs

@@ -12,7 +12,7 @@ use lib.ListN.{length, length-set, getD, set}
 use borrow.Author.Needs.{needs, scaled-fits}
 use borrow.Author.Tests.{eqb-true, eq-eqb}
 use Rattle.lamps.specs.View.{told}
-use Rattle.changes.specs.Together.{set-seen}
+use Rattle.changes.specs.Laws.{set-seen}
 use Rattle.walks.specs.Run.{Run, byteOf, run-none, run-more}
 use Rattle.stored_runs.specs.Putting.{Stored, stored-more}
 use Rattle.stored_runs.proofs.put_run.Statement.{statement}

@@ -5,7 +5,7 @@ use native.Mathlib.Omega.{arith}
 use mathlib.Core.Path.{_≡_, _∙_}
 use lib.ListN.{length, length-set, getD}
 use Rattle.lamps.specs.Row.{noughts-held}
-use Rattle.changes.specs.Together.{forgot-more}
+use Rattle.changes.specs.Laws.{forgot-more}
 use Rattle.changes.proofs.rows.forget.Statement.{statement}
 use Rattle.changes.proofs.rows.forget.Tie as tie
 

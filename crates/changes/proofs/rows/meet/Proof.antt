@@ -4,7 +4,7 @@ use Prim.Native.Nat.{_≤_, _-_}
 use mathlib.Core.Path.{_≡_, sym}
 use native.Mathlib.Omega.{arith}
 use Rattle.changes.specs.Change.{Met}
-use Rattle.changes.specs.Together.{met-none, met-more}
+use Rattle.changes.specs.Laws.{met-none, met-more}
 use Rattle.changes.proofs.rows.meet.Statement.{statement}
 use Rattle.changes.proofs.rows.meet.Tie as tie
 

@@ -4,7 +4,7 @@ use mathlib.Core.Bool.{Bool}
 use Rattle.rules.specs.Choice.{whether}
 use Rattle.lamps.specs.View.{held, met}
 use Rattle.lamps.specs.Lamp.{byte-none-past, byte-met-code}
-use Rattle.changes.specs.Together.{set-seen, one-place}
+use Rattle.changes.specs.Laws.{set-seen, one-place}
 use borrow.Author.Needs.{needs}
 use Rattle.changes.proofs.rows.meet_one.Statement.{statement}
 use Rattle.changes.proofs.rows.meet_one.Tie as tie

@@ -4,7 +4,7 @@ use mathlib.Core.Path.{_≡_, sym}
 use native.Mathlib.Omega.{arith}
 use borrow.Author.Needs.{scaled-fits}
 use Rattle.changes.specs.Change.{Met}
-use Rattle.changes.specs.Together.{met-none, met-run}
+use Rattle.changes.specs.Laws.{met-none, met-run}
 use Rattle.changes.proofs.rows.meet_run.Statement.{statement}
 use Rattle.changes.proofs.rows.meet_run.Tie as tie
 

@@ -3,7 +3,7 @@
 use mathlib.Core.Path.{refl}
 use Rattle.rules.specs.Change.{setBits}
 use Rattle.lamps.specs.Lamp.{wide2}
-use Rattle.changes.specs.Together.{code-told}
+use Rattle.changes.specs.Laws.{code-told}
 use Rattle.character.specs.Fact.{same?, port}
 use Rattle.character.specs.Laws.{every, ports-apart}
 use Rattle.character_knowledge.specs.View.{cview}

@@ -2,7 +2,7 @@
 -- Assumes nothing.
 use mathlib.Core.Path.{refl}
 use Rattle.lamps.specs.Lamp.{wide2}
-use Rattle.changes.specs.Together.{code-told}
+use Rattle.changes.specs.Laws.{code-told}
 use Rattle.character.specs.Fact.{same?, port}
 use Rattle.character.specs.Laws.{every, ports-apart}
 use Rattle.character_knowledge.specs.View.{cview}

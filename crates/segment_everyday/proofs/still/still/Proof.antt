@@ -10,10 +10,10 @@ use Rattle.segment_everyday.proofs.still.still.Statement.{statement}
 use Rattle.segment_everyday.proofs.still.still.Tie as tie
 
 abbrev Inv-loop : tie.InvT-loop
-Inv-loop family c bytes from most j₀ j = Stills family c bytes from j
+Inv-loop family c cells bytes from most j₀ j = Stills family c cells bytes from j
 
 abbrev μ-loop : tie.MeasureT-loop
-μ-loop family c bytes from most j₀ j = most - j
+μ-loop family c cells bytes from most j₀ j = most - j
 
 enum-told : tie.Need-enum-told Inv-loop μ-loop
 enum-told c = search needs
@@ -22,19 +22,19 @@ enum-told-2 : tie.Need-enum-told-2 Inv-loop μ-loop
 enum-told-2 c = search needs
 
 returns : tie.Need-returns Inv-loop μ-loop
-returns c = stills-none _ _ _ _ (c .before .before .before .pre)
+returns c = stills-none _ _ _ _ _ (c .before .before .before .before .pre)
 
 sub-most : tie.Need-sub-most Inv-loop μ-loop
 sub-most c = omega arith
 
 loop-holds : tie.Need-loop-holds Inv-loop μ-loop
-loop-holds c = stills-none _ _ _ _ (c .before .before .before .pre)
+loop-holds c = stills-none _ _ _ _ _ (c .before .before .before .before .pre)
 
 mul-k : tie.Need-mul-k Inv-loop μ-loop
-mul-k c = record { fits = omega (arith, c .before .loop .inv .run .fits, c .before .before .before .before .before .good .1 .1 .0) }
+mul-k c = record { fits = omega (arith, c .before .loop .inv .run .fits, c .before .before .before .before .before .before .good .1 .1 .1 .0) }
 
 add-k : tie.Need-add-k Inv-loop μ-loop
-add-k c = record { fits = omega (arith, c .before .loop .inv .run .fits, c .before .before .before .before .before .good .1 .1 .0) }
+add-k c = record { fits = omega (arith, c .before .loop .inv .run .fits, c .before .before .before .before .before .before .good .1 .1 .1 .0) }
 
 shared-slice-read-if1 : tie.Need-shared-slice-read-if1 Inv-loop μ-loop
 shared-slice-read-if1 c = omega (arith, c .before .loop-test .taken)
@@ -43,7 +43,7 @@ returns-2 : tie.Need-returns-2 Inv-loop μ-loop
 returns-2 c = c .before .before .before .loop .inv
 
 add-unmoved : tie.Need-add-unmoved Inv-loop μ-loop
-add-unmoved c = record { fits = omega (arith, c .before .before .loop-test .taken, c .before .before .before .before .before .before .before .good .1 .1 .0) }
+add-unmoved c = record { fits = omega (arith, c .before .before .loop-test .taken, c .before .before .before .before .before .before .before .before .good .1 .1 .1 .0) }
 
 shared-slice-read-unmoved : tie.Need-shared-slice-read-unmoved Inv-loop μ-loop
 shared-slice-read-unmoved c = omega (arith, c .before .before .before .loop-test .taken)
@@ -55,14 +55,14 @@ returns-3 : tie.Need-returns-3 Inv-loop μ-loop
 returns-3 c = c .before .before .before .before .before .before .loop .inv
 
 add-j : tie.Need-add-j Inv-loop μ-loop
-add-j c = record { fits = omega (arith, c .before .before .before .before .before .loop-test .taken, c .before .before .before .before .before .before .before .before .before .before .good .1 .1 .0) }
+add-j c = record { fits = omega (arith, c .before .before .before .before .before .loop-test .taken, c .before .before .before .before .before .before .before .before .before .before .before .good .1 .1 .1 .0) }
 
 loop-less : tie.Need-loop-less Inv-loop μ-loop
 loop-less c = omega (arith, c .before .before .before .before .before .loop-test .taken)
 
 loop-again : tie.Need-loop-again Inv-loop μ-loop
 loop-again c = let l = c .before .before .before .before .before .before .loop in
-    stills-more _ _ _ _ (l .j) (l .inv) (omega (arith, c .before .before .before .before .before .loop-test .taken)) (c .before .before .before .if1 .left) (c .before .unmoved .ensures (not-false _ (c .if2 .left)))
+    stills-more _ _ _ _ _ (l .j) (l .inv) (omega (arith, c .before .before .before .before .before .loop-test .taken)) (c .before .before .before .if1 .left) (c .before .unmoved .ensures (not-false _ (c .if2 .left)))
 
 returns-4 : tie.Need-returns-4 Inv-loop μ-loop
 returns-4 c = c .before .loop .inv

@@ -4,7 +4,7 @@ use mathlib.Core.Path.{refl, ap}
 use Rattle.key_codes.specs.View.{coded}
 use Rattle.rules.specs.Unique.{getD-same}
 use Rattle.lamps.specs.Lamp.{wide4}
-use Rattle.changes.specs.Together.{code-told}
+use Rattle.changes.specs.Laws.{code-told}
 use Rattle.segment.specs.Family.{sizes}
 use Rattle.segment.specs.Fact.{same?, led}
 use Rattle.segment.specs.Laws.{every, leds-apart}

@@ -10,8 +10,8 @@ use borrow.Author.Needs.{needs}
 use Rattle.segment_known.proofs.perhaps.unmoved.Statement.{statement}
 use Rattle.segment_known.proofs.perhaps.unmoved.Tie as tie
 
-stays-lit-requires : tie.Need-stays-lit-requires
-stays-lit-requires c κs = search needs
+quiet-requires : tie.Need-quiet-requires
+quiet-requires c κs = search needs
 
 returns : tie.Need-returns
 returns c = λ e. absurd (true≢false (sym e))
@@ -59,8 +59,8 @@ returns-3 : tie.Need-returns-3
 returns-3 c = λ e. absurd (true≢false (sym e))
 
 returns-4 : tie.Need-returns-4
-returns-4 c = λ e. let a = c .before .before .before .before .before .before .before .args in
-    unmoved-mode (a .family) (a .byte) (a .c) (c .before .before .before .before .before .before .before .pre) (c .before .before .before .before .before .before .stays-lit .ensures (not-false _ (c .before .before .before .before .before .if1 .left))) _ (sym (c .before .before .command .given .1) ∙ c .before .before .before .before .command-of .ensures) (c .stays-moded .ensures e)
+returns-4 c = λ e. let a = c .before .before .before .before .before .before .before .before .args in
+    unmoved-mode (a .family) (a .byte) (a .c) (a .cells .now) (c .before .before .before .before .before .before .before .before .pre) (c .before .before .before .before .before .before .quiet .ensures (not-false _ (c .before .before .before .before .before .if1 .left))) _ (sym (c .before .before .command .given .1) ∙ c .before .before .before .before .command-of .ensures) (c .stays-moded .ensures e)
 
 returns-5 : tie.Need-returns-5
 returns-5 c = λ e. absurd (true≢false (sym e))
@@ -72,18 +72,18 @@ returns-7 : tie.Need-returns-7
 returns-7 c = λ e. absurd (true≢false (sym e))
 
 returns-8 : tie.Need-returns-8
-returns-8 c = λ e. let a = c .before .before .before .before .before .before .before .before .before .before .args in
-    unmoved-control (a .family) (a .byte) (a .c) (c .before .before .before .before .before .before .before .before .before .before .pre) (c .before .before .before .before .before .before .before .before .before .stays-lit .ensures (not-false _ (c .before .before .before .before .before .before .before .before .if1 .left))) (c .before .before .before .before .before .command2 .given .0 .0) (c .before .before .before .before .before .command2 .given .0 .1 .0) (sym (c .before .before .before .before .before .command2 .given .1) ∙ c .before .before .before .before .before .before .before .command-of .ensures) (c .before .before .before .stays .ensures (not-false _ (c .before .before .if2 .left))) (c .stays2 .ensures e ∙ ap (join _) (ap known (c .before .display-number .ensures)))
+returns-8 c = λ e. let a = c .before .before .before .before .before .before .before .before .before .before .before .args in
+    unmoved-control (a .family) (a .byte) (a .c) (a .cells .now) (c .before .before .before .before .before .before .before .before .before .before .before .pre) (c .before .before .before .before .before .before .before .before .before .quiet .ensures (not-false _ (c .before .before .before .before .before .before .before .before .if1 .left))) (c .before .before .before .before .before .command2 .given .0 .0) (c .before .before .before .before .before .command2 .given .0 .1 .0) (sym (c .before .before .before .before .before .command2 .given .1) ∙ c .before .before .before .before .before .before .before .command-of .ensures) (c .before .before .before .stays .ensures (not-false _ (c .before .before .if2 .left))) (c .stays2 .ensures e ∙ ap (join _) (ap known (c .before .display-number .ensures)))
 
 returns-9 : tie.Need-returns-9
-returns-9 c = λ e. let a = c .before .before .before .before .before .before .before .args in
-    unmoved-start (a .family) (a .byte) (a .c) (c .before .before .before .before .before .before .before .pre) (c .before .before .before .before .before .before .stays-lit .ensures (not-false _ (c .before .before .before .before .before .if1 .left))) _ (sym (c .before .before .enum-told4 .given .1) ∙ c .before .before .before .before .command-of .ensures) (ap points (c .enum-told5 .given .1))
+returns-9 c = λ e. let a = c .before .before .before .before .before .before .before .before .args in
+    unmoved-start (a .family) (a .byte) (a .c) (a .cells .now) (c .before .before .before .before .before .before .before .before .pre) (c .before .before .before .before .before .before .quiet .ensures (not-false _ (c .before .before .before .before .before .if1 .left))) _ (sym (c .before .before .enum-told4 .given .1) ∙ c .before .before .before .before .command-of .ensures) (ap points (c .enum-told5 .given .1))
 
 pub unmoved-spec : {M : Type 1} → statement M
 unmoved-spec =
     tie.close
     (tie.spec
-    stays-lit-requires
+    quiet-requires
     returns
     command-of-requires
     enum-known-command

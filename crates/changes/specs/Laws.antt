@@ -1,4 +1,4 @@
--- Laws of changes: what two have in common is told code by code, stays within the row, and what a change of codes does is what it says.
+-- Laws of changes: what is left of one that may have happened is told code by code and stays within the row, and what a change of codes does is what it says.
 use Prim.Native.Nat.{ℕ, zero, suc, _+_, _*_, _<_, _≤_}
 use native.Mathlib.Omega.{arith}
 use native.Mathlib.Decide.{decLt, ℕ-discrete}
@@ -11,6 +11,7 @@ use lib.ListN.{length, length-set, getD, set}
 use lib.Seq.{getD-set-same, getD-set-other}
 use lib.Dec.{eqb, ltb}
 use borrow.Author.Tests.{eqb-true, eq-eqb, ne-eqb, lt-ltb, le-ltb}
+use borrow.Author.Count.{below-more}
 use Rattle.rules.specs.Digit.{digit}
 use Rattle.rules.specs.Touch.{bits-at, bits-leave}
 use Rattle.rules.specs.Laws.{past}
@@ -22,8 +23,9 @@ use Rattle.knowing.specs.Join.{join-swap, join-again, join-not, join-nor, join-
 use Rattle.changes.specs.declared.change.Change.{Change}
 use Rattle.changes.specs.declared.change.Change.the-variants.{Keep, Put, Meet, Forget}
 use Rattle.lamps.specs.View.{shown, held, Wide, told, met, metCode, OfByte, Puts, Meets}
-use Rattle.lamps.specs.Lamp.{byte-none-past, byte-met-code}
-use Rattle.changes.specs.Change.{among, seen, Changes, Met, Inside, loose, joinedWith, joined, TogetherWith, Together, Plain}
+use Rattle.lamps.specs.Lamp.{wide8, byte-none-past, byte-met-code}
+use Rattle.lamps.specs.Row.{row-end}
+use Rattle.changes.specs.Change.{among, seen, Changes, Met, Inside, loose}
 
 -- A bit that keeps or takes part.
 by-test : (t : Bool) (s x : Standing) → whether t (join s x) s ≡ join s (whether t x s)
@@ -60,63 +62,11 @@ loose-seen w (Put a b) i k s = rw (one-place (a .0) i) (either (eqb i (a .0)) s 
 loose-seen w (Meet a by n b) i k s = either (among (a .0) by n i) s _ _ (met-again w b k s)
 loose-seen w Forget i k s = join-nor s unknown refl
 
-with-seen : (w : ℕ) (x y : Change) → TogetherWith x y → (i k : ℕ) (s : Standing) → seen w (joinedWith x y) i k s ≡ join (seen w x i k s) (seen w y i k s)
-with-seen w x Keep t i k s = loose-seen w x i k s ∙ join-swap s (seen w x i k s)
-with-seen w x (Put a b) t i k s = sym (ap (λ (y : Change). join (seen w x i k s) (seen w y i k s)) (sym t) ∙ join-itself (seen w x i k s))
-with-seen w x (Meet a by n b) t i k s = sym (ap (λ (y : Change). join (seen w x i k s) (seen w y i k s)) (sym t) ∙ join-itself (seen w x i k s))
-with-seen w x Forget t i k s = join-nor (seen w x i k s) unknown refl
-
-pub joined-seen : (w : ℕ) (x y : Change) → Together x y → (i k : ℕ) (s : Standing) → seen w (joined x y) i k s ≡ join (seen w x i k s) (seen w y i k s)
-joined-seen w Keep y t i k s = loose-seen w y i k s
-joined-seen w (Put a b) y t i k s = with-seen w (Put a b) y t i k s
-joined-seen w (Meet a by n b) y t i k s = with-seen w (Meet a by n b) y t i k s
-joined-seen w Forget y t i k s = join-not unknown (seen w y i k s) refl
-
 pub loose-inside : (room : ℕ) (x : Change) → Inside room x → Inside room (loose x)
 loose-inside room Keep h = h
 loose-inside room (Put a b) h = (omega arith, λ j l. omega arith)
 loose-inside room (Meet a by n b) h = h
 loose-inside room Forget h = h
-
-with-inside : (room : ℕ) (x y : Change) → Inside room x → Inside room (joinedWith x y)
-with-inside room x Keep h = loose-inside room x h
-with-inside room x (Put a b) h = h
-with-inside room x (Meet a by n b) h = h
-with-inside room x Forget h = tt
-
-pub joined-inside : (room : ℕ) (x y : Change) → Inside room x → Inside room y → Inside room (joined x y)
-joined-inside room Keep y h k = loose-inside room y k
-joined-inside room (Put a b) y h k = with-inside room (Put a b) y h
-joined-inside room (Meet a by n b) y h k = with-inside room (Meet a by n b) y h
-joined-inside room Forget y h k = tt
-
--- A plain change can be told together with any other.
-pub plain-together : (x y : Change) → Plain x → Together x y
-plain-together Keep y p = tt
-plain-together (Put a b) y p = absurd p
-plain-together (Meet a by n b) y p = absurd p
-plain-together Forget y p = tt
-
-with-plain : (x y : Change) → Plain y → TogetherWith x y
-with-plain x Keep q = tt
-with-plain x (Put a b) q = absurd q
-with-plain x (Meet a by n b) q = absurd q
-with-plain x Forget q = tt
-
-pub together-plain : (x y : Change) → Plain y → Together x y
-together-plain Keep y q = tt
-together-plain (Put a b) y q = with-plain (Put a b) y q
-together-plain (Meet a by n b) y q = with-plain (Meet a by n b) y q
-together-plain Forget y q = tt
-
-pub plain-joined : (x y : Change) → Plain x → Plain y → Plain (joined x y)
-plain-joined Keep Keep p q = tt
-plain-joined Keep (Put a b) p q = absurd q
-plain-joined Keep (Meet a by n b) p q = absurd q
-plain-joined Keep Forget p q = tt
-plain-joined (Put a b) y p q = absurd p
-plain-joined (Meet a by n b) y p q = absurd p
-plain-joined Forget y p q = tt
 
 -- One code more is forgotten.
 pub forgot-more : (l : List ℕ) (n : ℕ) → ((i : ℕ) → i < n → getD l i 0 ≡ 0) → n < length l → (i : ℕ) → i < n + 1 → getD (set l n 0) i 0 ≡ 0
@@ -125,6 +75,26 @@ forgot-more l n h room i o = go (ℕ-discrete i n)
     go : Dec (i ≡ n) → getD (set l n 0) i 0 ≡ 0
     go (yes p) = rw p (getD-set-same l n 0 0 room)
     go (no p) = getD-set-other l n i 0 0 p ∙ h i (omega arith)
+
+-- The first n codes agree with the byte b: wherever it went, they are as they were.
+abbrev pub AgreeTo : List ℕ → ℕ → ℕ → Type 0
+AgreeTo l b n = (i : ℕ) → i < n → (k : ℕ) → held 8 l i k ≡ met 8 b k (held 8 l i k)
+
+pub agree-more : (l : List ℕ) (b c n x : ℕ) → OfByte 8 b c → AgreeTo l b n → Meets 65535 c (getD l n 0) x → x ≡ getD l n 0 → AgreeTo l b (n + 1)
+agree-more l b c n x o h m e =
+    below-more (λ (i : ℕ). (k : ℕ) → held 8 l i k ≡ met 8 b k (held 8 l i k)) n h
+    (λ k. ap (λ (y : ℕ). shown 8 y k) (sym e) ∙ m 8 wide8 (byte-none-past 8 b c o) k ∙ byte-met-code 8 b c o k (shown 8 (getD l n 0) k))
+
+pub agree-all : (l : List ℕ) (b n : ℕ) → AgreeTo l b n → length l ≤ n → (i k : ℕ) → held 8 l i k ≡ met 8 b k (held 8 l i k)
+agree-all l b n h e i k = go (decLt i n)
+  where
+    none : (t : Bool) → unknown ≡ whether t (join unknown (known (digit k b))) unknown
+    none true = join-not unknown _ refl
+    none false = refl
+
+    go : Dec (i < n) → held 8 l i k ≡ met 8 b k (held 8 l i k)
+    go (yes p) = h i p k
+    go (no p) = rw (row-end 8 l i k (omega arith)) (none (ltb k 8))
 
 -- One code changed, by what it shows.
 pub set-seen : (w : ℕ) (f : ℕ → Standing → Standing) (l : List ℕ) (a x : ℕ) → a < length l → ((k : ℕ) → shown w x k ≡ f k (held w l a k)) → (i k : ℕ)
