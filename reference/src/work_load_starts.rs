@@ -30,6 +30,8 @@ impl Start {
 enum Case {
     /// No strobe ever tells where they stand.
     Position,
+    /// The same, where data goes to the display.
+    Shown,
     /// Strobes with an address and a few bytes.
     DataMode,
     /// One long strobe that writes to the display.
@@ -38,11 +40,14 @@ enum Case {
     Ram(u8),
 }
 
-const KEY_CASES: [(&str, Case); 3] = [
+const KEY_CASES: [(&str, Case); 4] = [
     ("position", Case::Position),
     ("data-mode", Case::DataMode),
     ("address", Case::Address),
+    ("shown", Case::Shown),
 ];
+/// Data goes to the display, and the address counts up.
+const WRITE_DISPLAY: u8 = 0x40;
 const CHARACTER_CASES: [(&str, Case); 4] = [
     ("position", Case::Position),
     ("dcram", Case::Ram(0x10)),
@@ -91,12 +96,15 @@ impl Case {
             prelude.switches(random.byte() & 0x0F);
         }
         paint_from(&mut prelude, part, random, pool);
+        if let Case::Shown = self {
+            prelude.strobe(WRITE_DISPLAY, &[]);
+        }
         if let Case::Ram(first) = self {
             prelude.strobe_falls();
             prelude.byte_in(first);
         }
         let forgotten = Forgotten {
-            position: matches!(self, Case::Position),
+            position: matches!(self, Case::Position | Case::Shown),
             data_mode: matches!(self, Case::DataMode),
             addresses: matches!(self, Case::Address | Case::Ram(_)),
         };
@@ -107,7 +115,7 @@ impl Case {
         let mut recording = Recording::up_to(SHORT);
         if let Case::Address = self {
             recording.strobe_falls();
-            recording.byte_in(0x40);
+            recording.byte_in(WRITE_DISPLAY);
         }
         while !recording.is_full() {
             if let Case::DataMode = self {
