@@ -19,10 +19,10 @@ use Rattle.recording.specs.Append.{shifted}
 use Rattle.recording.specs.Cut.{Open, walked-next, walked-stops}
 use Rattle.recording.specs.Start.{CutOff, none, some, started}
 use Rattle.recording.specs.Tests.{Starts, starts}
-use Rattle.recording.specs.declared.ending.Ending.the-variants.{Done, Stops}
-use Rattle.recording.specs.declared.read.Read.the-variants.{Is, Refused}
-use Rattle.recording.specs.declared.read.Refusal.{Refusal}
-use Rattle.recording.specs.declared.read.Refusal.the-variants.{CutShort, Forbidden}
+use Rattle.recording.specs.declared.Ending.the-variants.{Done, Stops}
+use Rattle.recording.specs.declared.Read.the-variants.{Is, Refused}
+use Rattle.recording.specs.declared.Refusal.{Refusal}
+use Rattle.recording.specs.declared.Refusal.the-variants.{CutShort, Forbidden}
 use Rattle.account.specs.Bytes.{wholeOf}
 
 -- The unfinished bytes are such a record's, and counted in the total.

@@ -6,13 +6,13 @@ use mathlib.Core.List.{List, []}
 use lib.ListN.{drop}
 use Rattle.terms.specs.declared.Part.{Part}
 use Rattle.recording.specs.Walk.{walked, endOf}
-use Rattle.recording.specs.declared.ending.Ending.{Ending}
-use Rattle.recording.specs.declared.ending.Ending.the-variants.{Done, Stops}
-use Rattle.recording.specs.declared.read.Refusal.{Refusal}
-use Rattle.recording.specs.declared.read.Refusal.the-variants.{Unlisted, Foreign, CutShort, Forbidden}
+use Rattle.recording.specs.declared.Ending.{Ending}
+use Rattle.recording.specs.declared.Ending.the-variants.{Done, Stops}
+use Rattle.recording.specs.declared.Refusal.{Refusal}
+use Rattle.recording.specs.declared.Refusal.the-variants.{Unlisted, Foreign, CutShort, Forbidden}
 use Rattle.answers.specs.declared.Answer.the-variants as A
 use Rattle.answers.specs.Answer.{number, place, refusedAs}
-use Rattle.account.specs.declared.kept.Kept.the-variants as Stands
+use Rattle.account.specs.declared.Kept.the-variants as Stands
 use Rattle.account.specs.declared.unfinished.Unfinished.{Unfinished}
 use Rattle.account.specs.declared.unfinished.Unfinished.the-variants as Left
 use Rattle.account.specs.Bytes.{bytesOf}

@@ -12,10 +12,10 @@ use Rattle.recording.specs.Cut.{Open, leftBy}
 use Rattle.recording.specs.Start.{body-four}
 use Rattle.recording.specs.Tests.{starts}
 use Rattle.recording.specs.Points.{stops-within, cut-front}
-use Rattle.recording.specs.declared.ending.Ending.{Ending}
-use Rattle.recording.specs.declared.ending.Ending.the-variants.{Done, Stops}
-use Rattle.recording.specs.declared.read.Refusal.{Refusal}
-use Rattle.recording.specs.declared.read.Refusal.the-variants.{Unlisted, Foreign, CutShort, Forbidden}
+use Rattle.recording.specs.declared.Ending.{Ending}
+use Rattle.recording.specs.declared.Ending.the-variants.{Done, Stops}
+use Rattle.recording.specs.declared.Refusal.{Refusal}
+use Rattle.recording.specs.declared.Refusal.the-variants.{Unlisted, Foreign, CutShort, Forbidden}
 use Rattle.account.specs.declared.unfinished.Unfinished.{Unfinished}
 use Rattle.account.specs.Bytes.{bytesOf}
 use Rattle.account_ends.specs.declared.ended.Ended.{Ended}

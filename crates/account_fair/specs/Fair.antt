@@ -7,8 +7,8 @@ use lib.ListN.{length}
 use Rattle.terms.specs.declared.Part.{Part}
 use Rattle.recording.specs.Start.{CutOff}
 use Rattle.answers.specs.Answer.{number}
-use Rattle.account.specs.declared.kept.Kept.{Kept}
-use Rattle.account.specs.declared.kept.Kept.the-variants as Stands
+use Rattle.account.specs.declared.Kept.{Kept}
+use Rattle.account.specs.declared.Kept.the-variants as Stands
 use Rattle.account.specs.declared.unfinished.Unfinished.{Unfinished}
 use Rattle.account.specs.Bytes.{bytesOf}
 

@@ -9,9 +9,9 @@ use lib.ListN.{length}
 use lib.Dec.{eqb}
 use Rattle.rules.specs.Tests.{Tests}
 use Rattle.terms.specs.declared.Part.{Part}
-use Rattle.recording.specs.declared.read.Read.{Read}
-use Rattle.recording.specs.declared.read.Read.the-variants.{Refused}
-use Rattle.recording.specs.declared.read.Refusal.the-variants.{CutShort}
+use Rattle.recording.specs.declared.Read.{Read}
+use Rattle.recording.specs.declared.Read.the-variants.{Refused}
+use Rattle.recording.specs.declared.Refusal.the-variants.{CutShort}
 use Rattle.recording.specs.Record.{front}
 use Rattle.recording.specs.Append.{Told}
 use Rattle.recording.specs.Start as Start

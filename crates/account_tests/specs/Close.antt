@@ -3,10 +3,10 @@
 use Prim.Native.Nat.{ℕ, _+_}
 use mathlib.Core.List.{List, [], _∷_}
 use Rattle.recording.specs.Record.{number, placeWithin}
-use Rattle.recording.specs.declared.read.Refusal.the-variants.{CutShort}
+use Rattle.recording.specs.declared.Refusal.the-variants.{CutShort}
 use Rattle.answers.specs.declared.Answer.{Answer}
 use Rattle.answers.specs.Told.{Answers}
-use Rattle.account.specs.declared.kept.Kept.{Kept}
+use Rattle.account.specs.declared.Kept.{Kept}
 use Rattle.account.specs.declared.unfinished.Unfinished.{Unfinished}
 use Rattle.account.specs.Bytes.{bytesOf, firstPlace}
 use Rattle.account_tests.specs.Tests.{ByKept}

@@ -2,8 +2,8 @@
 use Prim.Native.Nat.{ℕ}
 use Rattle.rules.specs.Where.{where-not, where-map}
 use Rattle.answers.specs.Answer.{number, place}
-use Rattle.account.specs.declared.kept.Kept.{Kept}
-use Rattle.account.specs.declared.kept.Kept.the-variants as Stands
+use Rattle.account.specs.declared.Kept.{Kept}
+use Rattle.account.specs.declared.Kept.the-variants as Stands
 use Rattle.account_tests.specs.Tests.{Fits, Admitted}
 
 module _ (total n : ℕ) (R : ℕ → ℕ → Type 0) {P : Type 0} where

@@ -4,8 +4,8 @@ use Rattle.rules.specs.Where.{Where}
 use Rattle.answers.specs.declared.Trial.{Trial}
 use Rattle.answers.specs.Answer.{number, place}
 use Rattle.answers.specs.Told.{RefusedWith, Passes}
-use Rattle.account.specs.declared.kept.Kept.{Kept}
-use Rattle.account.specs.declared.kept.Kept.the-variants as Stands
+use Rattle.account.specs.declared.Kept.{Kept}
+use Rattle.account.specs.declared.Kept.the-variants as Stands
 
 -- A packet of n bytes is not too long, and leaves the total within its limit.
 pub record Fits (total n : ℕ) : Type 0 where

@@ -6,8 +6,8 @@ use Rattle.answers.specs.declared.Answer.{Answer}
 use Rattle.answers.specs.Answer.{number, place}
 use Rattle.answers.specs.Told.{Answers}
 use Rattle.answers.specs.Unique.{same-answer}
-use Rattle.account.specs.declared.kept.Kept.{Kept}
-use Rattle.account.specs.declared.kept.Kept.the-variants as Stands
+use Rattle.account.specs.declared.Kept.{Kept}
+use Rattle.account.specs.declared.Kept.the-variants as Stands
 use Rattle.account_tests.specs.Tests.{ByKept}
 use Rattle.account_tests.specs.Close.{ByLeft}
 

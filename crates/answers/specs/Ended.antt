@@ -7,8 +7,8 @@ use lib.ListN.{length, drop, length-drop}
 use Rattle.terms.specs.declared.Part.{Part}
 use Rattle.recording.specs.Walk.{walked, endOf}
 use Rattle.recording.specs.Points.{stops-within}
-use Rattle.recording.specs.declared.ending.Ending.{Ending}
-use Rattle.recording.specs.declared.ending.Ending.the-variants.{Done, Stops}
+use Rattle.recording.specs.declared.Ending.{Ending}
+use Rattle.recording.specs.declared.Ending.the-variants.{Done, Stops}
 use Rattle.answers.specs.declared.Answer.{Answer}
 use Rattle.answers.specs.declared.Answer.the-variants as A
 use Rattle.answers.specs.Answer.{refusedAs}

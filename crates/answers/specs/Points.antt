@@ -11,9 +11,9 @@ use Rattle.recording.specs.Record as Record
 use Rattle.recording.specs.Walk.{walked, endOf}
 use Rattle.recording.specs.Points.{Points, points}
 use Rattle.recording.specs.Fault.{Blames, blames}
-use Rattle.recording.specs.declared.ending.Ending.the-variants.{Stops}
-use Rattle.recording.specs.declared.read.Refusal.{Refusal}
-use Rattle.recording.specs.declared.read.Refusal.the-variants.{Unlisted, Foreign, CutShort, Forbidden}
+use Rattle.recording.specs.declared.Ending.the-variants.{Stops}
+use Rattle.recording.specs.declared.Refusal.{Refusal}
+use Rattle.recording.specs.declared.Refusal.the-variants.{Unlisted, Foreign, CutShort, Forbidden}
 use Rattle.answers.specs.declared.Answer.{Answer}
 use Rattle.answers.specs.Answer.{number, place}
 

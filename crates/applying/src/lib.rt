@@ -10,7 +10,7 @@ ghost use Prim.Native.Nat.{ℕ, _<_};
 ghost use lib.ListN.{length};
 ghost use Rattle.lamps.specs.View.{Wide};
 ghost use Rattle.changes.specs.Change.{Inside, Changes};
-ghost use Rattle.changes.specs.declared.change.Change.the-variants.{Put, Meet};
+ghost use Rattle.changes.specs.declared.Change.the-variants.{Put, Meet};
 
 pub fn apply(codes: &mut [u16], wide: u16, change: Change)
     requires { ⌜ Inside (length (now codes)) change ⌝ }

@@ -5,8 +5,8 @@ use mathlib.Core.List.{List}
 use lib.ListN.{length, getD, take, drop}
 use Rattle.terms.specs.declared.PartRead.{PartRead}
 use Rattle.terms.specs.Part.{partOf}
-use Rattle.panel.specs.declared.knowledge.Panel.{Panel}
-use Rattle.feed.specs.declared.state.Feed.{Feed}
+use Rattle.panel.specs.declared.Panel.{Panel}
+use Rattle.feed.specs.declared.Feed.{Feed}
 use Rattle.feed.specs.Feed.{opening}
 use Rattle.feed.specs.Close.{Closes}
 use Rattle.packets.specs.declared.records.Taken.{Taken}

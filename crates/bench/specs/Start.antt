@@ -4,13 +4,13 @@ use mathlib.Core.Path.{_≡_}
 use mathlib.Core.List.{List}
 use lib.Dec.{eqb}
 use Rattle.rules.specs.Choice.{whether}
-use Rattle.standing.specs.declared.standing.Standing.{Standing}
-use Rattle.standing.specs.declared.standing.Standing.the-variants.{Unknown}
-use Rattle.segment_knowledge.specs.declared.control.Control as Segment
-use Rattle.segment_knowledge.specs.declared.control.Pointing.the-variants as Of·Segment
-use Rattle.character_knowledge.specs.declared.control.Control as Character
-use Rattle.character_knowledge.specs.declared.control.Pointing.the-variants as Of·Character
-use Rattle.panel.specs.declared.knowledge.Panel.{Panel}
+use Rattle.standing.specs.declared.Standing.{Standing}
+use Rattle.standing.specs.declared.Standing.the-variants.{Unknown}
+use Rattle.segment_knowledge.specs.declared.Control as Segment
+use Rattle.segment_knowledge.specs.declared.Pointing.the-variants as Of·Segment
+use Rattle.character_knowledge.specs.declared.Control as Character
+use Rattle.character_knowledge.specs.declared.Pointing.the-variants as Of·Character
+use Rattle.panel.specs.declared.Panel.{Panel}
 use Rattle.replay.specs.declared.replays.Replayed.{Replayed}
 use Rattle.replay.specs.FromNothing.{FromNothing}
 use Rattle.bench.specs.declared.start.Marks.{Marks}

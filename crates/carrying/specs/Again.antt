@@ -17,10 +17,10 @@ use Rattle.terms.specs.declared.Part.{Part}
 use Rattle.terms.specs.Event.{recorded}
 use Rattle.carrying.specs.declared.carried.Carried.{Carried}
 use Rattle.carrying.specs.declared.carried.Carried.the-variants as C
-use Rattle.recording.specs.declared.read.Read.{Read}
-use Rattle.recording.specs.declared.read.Read.the-variants.{Is, Refused}
-use Rattle.recording.specs.declared.read.Refusal.{Refusal}
-use Rattle.recording.specs.declared.read.Refusal.the-variants.{Foreign, Forbidden}
+use Rattle.recording.specs.declared.Read.{Read}
+use Rattle.recording.specs.declared.Read.the-variants.{Is, Refused}
+use Rattle.recording.specs.declared.Refusal.{Refusal}
+use Rattle.recording.specs.declared.Refusal.the-variants.{Foreign, Forbidden}
 use Rattle.recording.specs.Record.{listed, belongs, bodyOf, allowed, eventOf, front, number}
 use Rattle.carrying.specs.Carried.{readAs, testedAs}
 

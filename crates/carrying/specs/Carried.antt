@@ -6,9 +6,9 @@ use Rattle.terms.specs.declared.Event.{Event}
 use Rattle.terms.specs.Event.{recorded}
 use Rattle.carrying.specs.declared.carried.Carried.{Carried}
 use Rattle.carrying.specs.declared.carried.Carried.the-variants as C
-use Rattle.recording.specs.declared.read.Read.{Read}
-use Rattle.recording.specs.declared.read.Read.the-variants.{Is, Refused}
-use Rattle.recording.specs.declared.read.Refusal.the-variants.{Foreign, Forbidden}
+use Rattle.recording.specs.declared.Read.{Read}
+use Rattle.recording.specs.declared.Read.the-variants.{Is, Refused}
+use Rattle.recording.specs.declared.Refusal.the-variants.{Foreign, Forbidden}
 
 -- The event's record is read as the event, whole, or it is refused.
 abbrev pub readAs : Event → Carried → Read

@@ -9,8 +9,8 @@ use Rattle.rules.specs.Choice.{whether}
 use Rattle.knowing.specs.Standing.{Standing, unknown}
 use Rattle.knowing.specs.Know.{join}
 use Rattle.lamps.specs.View.{held, Wide, told, met, metCode, NonePast}
-use Rattle.changes.specs.declared.change.Change.{Change}
-use Rattle.changes.specs.declared.change.Change.the-variants.{Keep, Put, Meet, Forget}
+use Rattle.changes.specs.declared.Change.{Change}
+use Rattle.changes.specs.declared.Change.the-variants.{Keep, Put, Meet, Forget}
 
 -- i is one of n numbers, from `from` on, one in `by`.
 abbrev pub among : ℕ → ℕ → ℕ → ℕ → Bool

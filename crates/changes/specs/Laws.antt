@@ -20,8 +20,8 @@ use Rattle.rules.specs.Change.{keep, setBits}
 use Rattle.knowing.specs.Standing.{Standing, known, unknown}
 use Rattle.knowing.specs.Know.{join, lifted}
 use Rattle.knowing.specs.Join.{join-swap, join-again, join-not, join-nor, join-itself}
-use Rattle.changes.specs.declared.change.Change.{Change}
-use Rattle.changes.specs.declared.change.Change.the-variants.{Keep, Put, Meet, Forget}
+use Rattle.changes.specs.declared.Change.{Change}
+use Rattle.changes.specs.declared.Change.the-variants.{Keep, Put, Meet, Forget}
 use Rattle.lamps.specs.View.{shown, held, Wide, told, met, metCode, OfByte, Puts, Meets}
 use Rattle.lamps.specs.Lamp.{wide8, byte-none-past, byte-met-code}
 use Rattle.lamps.specs.Row.{row-end}

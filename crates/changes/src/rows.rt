@@ -10,7 +10,7 @@ ghost use lib.ListN.{length};
 ghost use Rattle.knowing.specs.Standing.{unknown};
 ghost use Rattle.lamps.specs.View.{held, met, Wide};
 ghost use Rattle.changes.specs.Change.{Changes, Met};
-ghost use Rattle.changes.specs.declared.change.Change.the-variants.{Meet};
+ghost use Rattle.changes.specs.declared.Change.the-variants.{Meet};
 
 // What the code `c` says may have gone to any of these codes: `count` of them, from `from` on, one in `by`. Each keeps what it has in common with `c`.
 pub fn meet(codes: &mut [u16], wide: u16, from: usize, by: usize, count: usize, c: u16)

@@ -4,8 +4,8 @@ use Prim.Native.Nat.{ℕ, _/_, _%_}
 use lib.Dec.{eqb}
 use Rattle.rules.specs.Choice.{whether, bit}
 use Rattle.terms.specs.declared.Address.{Address}
-use Rattle.character.specs.declared.chip.Lights.{Lights}
-use Rattle.character.specs.declared.chip.Lights.the-variants.{Normal, Off, On}
+use Rattle.character.specs.declared.Lights.{Lights}
+use Rattle.character.specs.declared.Lights.the-variants.{Normal, Off, On}
 use Rattle.character.specs.declared.command.Command.{Command}
 use Rattle.character.specs.declared.command.Command.the-variants.{Dcram, Cgram, Adram, Port, Duty, Digits, Light, Nothing, Undefined}
 

@@ -10,7 +10,7 @@ use Rattle.rules.specs.Choice.{whether}
 use Rattle.rules.specs.Rule.{Form, value, copy, free, Told, told, outcome}
 use Rattle.rules.specs.Change.{keep}
 use Rattle.rules.specs.Laws.{told-byte, told-low, told-low-in}
-use Rattle.character.specs.declared.chip.Character.{Character}
+use Rattle.character.specs.declared.Character.{Character}
 use Rattle.character.specs.Fact.{Fact, same?, bySort, setting, memory, dcram, cgram, adram, dcramAt, cgramAt, adramAt, column, port, duty, digits, lights, position}
 use Rattle.character.specs.View.{view}
 use Rattle.character.specs.Move.{Forms, spells, undefined}

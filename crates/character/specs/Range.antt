@@ -12,17 +12,17 @@ use Rattle.terms.specs.declared.Event.{Event}
 use Rattle.terms.specs.declared.Event.the-variants.{Power, Falls, ByteIn, Rises, Gap, Unfinished, Keys, Switches, ByteOut}
 use Rattle.character.specs.declared.command.Command.{Command}
 use Rattle.character.specs.declared.command.Command.the-variants.{Dcram, Cgram, Adram, Port, Duty, Digits, Light, Nothing, Undefined}
-use Rattle.character.specs.declared.chip.Lights.{Lights}
-use Rattle.character.specs.declared.chip.Lights.the-variants.{Normal, Off, On}
-use Rattle.character.specs.declared.chip.Position.{Position}
-use Rattle.character.specs.declared.chip.Position.the-variants.{Idle, First, Dcram as inDcram, Cgram as inCgram, Adram as inAdram, Ignoring}
+use Rattle.character.specs.declared.Lights.{Lights}
+use Rattle.character.specs.declared.Lights.the-variants.{Normal, Off, On}
+use Rattle.character.specs.declared.Position.{Position}
+use Rattle.character.specs.declared.Position.the-variants.{Idle, First, Dcram as inDcram, Cgram as inCgram, Adram as inAdram, Ignoring}
 use Rattle.character.specs.Fact.{Fact, same?, range, dcram, cgram, adram, dcramAt, cgramAt, adramAt, column, port, duty, digits, lights, position}
 use Rattle.character.specs.Value.{lit, at-position}
 use Rattle.character.specs.Command.{lightsOf, spareOf, commandOf}
 use Rattle.character.specs.Move.{Forms, sets, spells, then, commanded, drawn, move}
 use Rattle.character.specs.Laws.{every, port-undefined}
-use Rattle.character.specs.declared.chip.Character.{Character}
-use Rattle.character.specs.declared.chip.Moved.{Moved}
+use Rattle.character.specs.declared.Character.{Character}
+use Rattle.character.specs.declared.Moved.{Moved}
 use Rattle.character.specs.View.{view, covers, By}
 
 lit-fits : (l : Lights) → lit l < 3

@@ -7,13 +7,13 @@ use Rattle.rules.specs.Digit.{same-lamps, same-narrow}
 use Rattle.rules.specs.Choice.{of3, of6}
 use Rattle.rules.specs.Rule.{Rule}
 use Rattle.rules.specs.Unique.{by-number, same-list, same-value, same-any}
-use Rattle.character.specs.declared.chip.Character.{Character}
-use Rattle.character.specs.declared.chip.Anything.{Anything}
-use Rattle.character.specs.declared.chip.Moved.{Moved}
-use Rattle.character.specs.declared.chip.Lights.{Lights}
-use Rattle.character.specs.declared.chip.Lights.the-variants.{Normal, Off, On}
-use Rattle.character.specs.declared.chip.Position.{Position}
-use Rattle.character.specs.declared.chip.Position.the-variants.{Idle, First, Dcram, Cgram, Adram, Ignoring}
+use Rattle.character.specs.declared.Character.{Character}
+use Rattle.character.specs.declared.Anything.{Anything}
+use Rattle.character.specs.declared.Moved.{Moved}
+use Rattle.character.specs.declared.Lights.{Lights}
+use Rattle.character.specs.declared.Lights.the-variants.{Normal, Off, On}
+use Rattle.character.specs.declared.Position.{Position}
+use Rattle.character.specs.declared.Position.the-variants.{Idle, First, Dcram, Cgram, Adram, Ignoring}
 use Rattle.character.specs.Fact.{Fact, dcram, cgram, adram, dcramAt, cgramAt, adramAt, column, port, duty, digits, lights, position}
 use Rattle.character.specs.Value.{lit, at-position}
 use Rattle.character.specs.View.{view, covers, By}

@@ -1,9 +1,9 @@
 -- The number that stands for each value that has a name.
 use Prim.Native.Nat.{ℕ}
-use Rattle.character.specs.declared.chip.Lights.{Lights}
-use Rattle.character.specs.declared.chip.Lights.the-variants.{Normal, Off, On}
-use Rattle.character.specs.declared.chip.Position.{Position}
-use Rattle.character.specs.declared.chip.Position.the-variants.{Idle, First, Dcram, Cgram, Adram, Ignoring}
+use Rattle.character.specs.declared.Lights.{Lights}
+use Rattle.character.specs.declared.Lights.the-variants.{Normal, Off, On}
+use Rattle.character.specs.declared.Position.{Position}
+use Rattle.character.specs.declared.Position.the-variants.{Idle, First, Dcram, Cgram, Adram, Ignoring}
 
 abbrev pub lit : Lights → ℕ
 lit Normal = 0

@@ -4,9 +4,9 @@ use mathlib.Core.Bool.{Bool}
 use lib.ListN.{getD}
 use Rattle.rules.specs.Rule.{Rule, Moves}
 use Rattle.rules.specs.Digit.{lamp, narrow}
-use Rattle.character.specs.declared.chip.Character.{Character}
-use Rattle.character.specs.declared.chip.Anything.{Anything}
-use Rattle.character.specs.declared.chip.Moved.{Moved}
+use Rattle.character.specs.declared.Character.{Character}
+use Rattle.character.specs.declared.Anything.{Anything}
+use Rattle.character.specs.declared.Moved.{Moved}
 use Rattle.character.specs.Fact.{Fact, columnBits, pairBits, portBits, dcram, cgram, adram, dcramAt, cgramAt, adramAt, column, port, duty, digits, lights, position}
 use Rattle.character.specs.Value.{lit, at-position}
 

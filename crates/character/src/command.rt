@@ -1,5 +1,5 @@
 // What a first byte says.
-use crate::chip::Lights;
+use crate::Lights;
 use terms::Address;
 ghost use mathlib.Core.Path.{_≡_};
 ghost use Rattle.character.specs.Command.{commandOf, spareOf, lightsOf};

@@ -6,9 +6,9 @@ use Rattle.standing.specs.View.{same-single}
 use Rattle.lamps.specs.Lamp.{one-code}
 use Rattle.lamps.specs.Row.{one-row}
 use Rattle.character.specs.Fact.{Fact, dcram, cgram, adram, dcramAt, cgramAt, adramAt, column, port, duty, digits, lights, position}
-use Rattle.character_knowledge.specs.declared.control.Pointing.{Pointing}
-use Rattle.character_knowledge.specs.declared.control.Pointing.the-variants.{At, Unknown}
-use Rattle.character_knowledge.specs.declared.knowledge.Knowledge.{Knowledge}
+use Rattle.character_knowledge.specs.declared.Pointing.{Pointing}
+use Rattle.character_knowledge.specs.declared.Pointing.the-variants.{At, Unknown}
+use Rattle.character_knowledge.specs.declared.Knowledge.{Knowledge}
 use Rattle.character_knowledge.specs.View.{points, kview}
 
 -- The rows are as long as the arrays of the type. This holds of every knowledge that code hands over.

@@ -1,14 +1,6 @@
 // What is known of a PT6302 panel, as a value.
-mod control;
-mod knowledge;
 mod numbers;
 
-pub use control::Control;
-pub use control::Pointing;
-pub use control::at;
-pub use control::no_control;
-pub use knowledge::Knowledge;
-pub use knowledge::nothing_known;
 pub use numbers::ADRAM;
 pub use numbers::CGRAM;
 pub use numbers::DCRAM;
@@ -18,3 +10,76 @@ pub use numbers::IGNORING;
 pub use numbers::NORMAL;
 pub use numbers::OFF;
 pub use numbers::ON;
+use standing::Standing;
+use terms::Address;
+ghost use mathlib.Core.Path.{_≡_};
+ghost use Rattle.knowing.specs.Standing.{unknown};
+ghost use Rattle.knowing.specs.Ways.{Learns};
+ghost use Rattle.character.specs.Fact.{Fact, same?, position};
+ghost use Rattle.character_knowledge.specs.View.{Memory, blank, cview, kview};
+
+// The address in a RAM: known or unknown.
+pub enum Pointing {
+    At(Address),
+    Unknown,
+}
+
+// The port is a code of `lamps`, bit by bit.
+pub struct Control {
+    pub dcram_at: Pointing,
+    pub cgram_at: Pointing,
+    pub adram_at: Pointing,
+    pub column: Standing,
+    pub port: u16,
+    pub duty: Standing,
+    pub digits: Standing,
+    pub lights: Standing,
+    pub position: Standing,
+}
+
+// Nothing is known.
+pub fn no_control() -> Control
+    ensures { λ r. ⌜ ((f : Fact) → cview blank r f ≡ unknown) ⌝ }
+{
+    Control {
+        dcram_at: Pointing::Unknown,
+        cgram_at: Pointing::Unknown,
+        adram_at: Pointing::Unknown,
+        column: Standing::Unknown,
+        port: 0,
+        duty: Standing::Unknown,
+        digits: Standing::Unknown,
+        lights: Standing::Unknown,
+        position: Standing::Unknown,
+    }
+}
+
+// The same with the position known.
+pub fn at(c: Control, place: u8) -> Control
+    ensures { λ r. ⌜ ((m : Memory) → Learns (cview m) same? position place c r) ⌝ }
+{
+    Control {
+        position: Standing::Known(place),
+        ..c
+    }
+}
+
+// What is known of a panel: its memory, and all else. A cell of a RAM is a code of `lamps`, bit by bit; column k of
+// character n stands at 5 n + k of cgram.
+pub struct Knowledge {
+    pub dcram: [u16; 16],
+    pub cgram: [u16; 40],
+    pub adram: [u16; 16],
+    pub control: Control,
+}
+
+pub fn nothing_known() -> Knowledge
+    ensures { λ r. ⌜ ((f : Fact) → kview r f ≡ unknown) ⌝ }
+{
+    Knowledge {
+        dcram: [0; 16],
+        cgram: [0; 40],
+        adram: [0; 16],
+        control: no_control(),
+    }
+}

@@ -15,7 +15,7 @@ use Rattle.character.specs.Fact.{same?, dcram, cgram, adram, dcramAt, cgramAt, 
 use Rattle.character.specs.Laws.{every, dcram-apart, cgram-apart, adram-apart}
 use Rattle.character.specs.Value.{at-position}
 use Rattle.character.specs.Move.{shown, marked, drawn, byteIn, move}
-use Rattle.character_knowledge.specs.declared.control.Control.{Control}
+use Rattle.character_knowledge.specs.declared.Control.{Control}
 use Rattle.character_knowledge.specs.View.{cview}
 use Rattle.character_steps.specs.Step.{Steps}
 use Rattle.character_steps.specs.Steps.{known-step}

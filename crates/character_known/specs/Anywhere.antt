@@ -17,9 +17,9 @@ use Rattle.knowing.specs.Join.{not-known, same-standing, join-other, join-not, 
 use Rattle.knowing.specs.Look.{look-known, idle-ways}
 use Rattle.knowing.specs.Lost.{common-lost, know-leaves}
 use Rattle.standing.specs.View.{stands}
-use Rattle.standing.specs.declared.standing.Standing as Of
-use Rattle.standing.specs.declared.standing.Standing.the-variants.{Known, Unknown as NotKnown}
-use Rattle.changes.specs.declared.change.Change.{Change}
+use Rattle.standing.specs.declared.Standing as Of
+use Rattle.standing.specs.declared.Standing.the-variants.{Known, Unknown as NotKnown}
+use Rattle.changes.specs.declared.Change.{Change}
 use Rattle.changes.specs.Change.{seen, Inside, loose}
 use Rattle.changes.specs.Laws.{loose-seen, loose-inside}
 use Rattle.character.specs.declared.command.Command.{Command}
@@ -29,11 +29,11 @@ use Rattle.character.specs.Fact.{Fact, same?, range, dcram, cgram, adram, dcram
 use Rattle.character.specs.Laws.{every, port-undefined}
 use Rattle.character.specs.Range.{two}
 use Rattle.character.specs.Move.{spells, commanded, shown, marked, drawn, byteIn}
-use Rattle.character_knowledge.specs.declared.control.Control.{Control}
-use Rattle.character_knowledge.specs.declared.control.Pointing.{Pointing}
-use Rattle.character_knowledge.specs.declared.control.Pointing.the-variants.{At, Unknown}
+use Rattle.character_knowledge.specs.declared.Control.{Control}
+use Rattle.character_knowledge.specs.declared.Pointing.{Pointing}
+use Rattle.character_knowledge.specs.declared.Pointing.the-variants.{At, Unknown}
 use Rattle.character_knowledge.specs.View.{Memory, cview, points}
-use Rattle.character_steps.specs.declared.steps.Step.{Step}
+use Rattle.character_steps.specs.declared.Step.{Step}
 use Rattle.character_steps.specs.Step.{sview, Steps}
 use Rattle.character_steps.specs.Steps.{known-step, goes, all-steps}
 use Rattle.character_known.specs.Ram.{text, columns, pairs, changedIn, putIn}

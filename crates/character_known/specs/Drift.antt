@@ -12,10 +12,10 @@ use Rattle.knowing.specs.Know.{join, know}
 use Rattle.knowing.specs.Join.{not-known, join-not}
 use Rattle.knowing.specs.Look.{know-same}
 use Rattle.standing.specs.View.{stands}
-use Rattle.standing.specs.declared.standing.Standing as Of
-use Rattle.standing.specs.declared.standing.Standing.the-variants.{Known, Unknown as NotKnown}
+use Rattle.standing.specs.declared.Standing as Of
+use Rattle.standing.specs.declared.Standing.the-variants.{Known, Unknown as NotKnown}
 use Rattle.lamps.specs.View.{met}
-use Rattle.changes.specs.declared.change.Change.the-variants.{Meet}
+use Rattle.changes.specs.declared.Change.the-variants.{Meet}
 use Rattle.changes.specs.Change.{among, metRun}
 use Rattle.terms.specs.declared.Event.the-variants.{ByteIn}
 use Rattle.terms.specs.declared.Address.{Address}
@@ -25,11 +25,11 @@ use Rattle.character.specs.Command.{Defined, commandOf}
 use Rattle.character.specs.Fact.{Fact, same?, range, dcram, cgram, adram, dcramAt, cgramAt, adramAt, column, port, duty, digits, lights, position}
 use Rattle.character.specs.Laws.{every}
 use Rattle.character.specs.Move.{move}
-use Rattle.character_knowledge.specs.declared.control.Control.{Control}
-use Rattle.character_knowledge.specs.declared.control.Pointing.{Pointing}
-use Rattle.character_knowledge.specs.declared.control.Pointing.the-variants.{At, Unknown}
+use Rattle.character_knowledge.specs.declared.Control.{Control}
+use Rattle.character_knowledge.specs.declared.Pointing.{Pointing}
+use Rattle.character_knowledge.specs.declared.Pointing.the-variants.{At, Unknown}
 use Rattle.character_knowledge.specs.View.{Memory, blank, cview, points}
-use Rattle.character_steps.specs.declared.steps.Step.{Step}
+use Rattle.character_steps.specs.declared.Step.{Step}
 use Rattle.character_steps.specs.Step.{sview, Steps}
 use Rattle.character_known.specs.Ram.{Ram, text, columns, pairs, metIn, Roams, Adrift}
 use Rattle.character_known.specs.Open.{roams-step}

@@ -10,7 +10,7 @@ use Rattle.character.specs.declared.command.Command.{Command}
 use Rattle.character.specs.Command.{commandOf}
 use Rattle.character.specs.Fact.{same?, range, position}
 use Rattle.character.specs.Move.{nothing, commanded, byteIn, move}
-use Rattle.character_knowledge.specs.declared.control.Control.{Control}
+use Rattle.character_knowledge.specs.declared.Control.{Control}
 use Rattle.character_knowledge.specs.View.{Memory, blank, cview}
 use Rattle.character_steps.specs.Step.{Keeps, Forgets}
 use Rattle.character_known.specs.declared.everyday.Target.{Target}

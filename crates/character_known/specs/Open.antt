@@ -7,7 +7,7 @@ use Rattle.character.specs.Fact.{position}
 use Rattle.character.specs.Laws.{every}
 use Rattle.character.specs.Value.{at-position}
 use Rattle.character.specs.Move.{byteIn, move}
-use Rattle.character_knowledge.specs.declared.control.Control.{Control}
+use Rattle.character_knowledge.specs.declared.Control.{Control}
 use Rattle.character_knowledge.specs.View.{cview}
 use Rattle.character_steps.specs.Step.{Steps}
 use Rattle.character_steps.specs.Steps.{known-step}

@@ -9,19 +9,19 @@ use Rattle.rules.specs.Rule.{Rule, look}
 use Rattle.rules.specs.Change.{setBits}
 use Rattle.knowing.specs.Standing.{known, unknown}
 use Rattle.standing.specs.View.{stands}
-use Rattle.standing.specs.declared.standing.Standing.{Standing}
-use Rattle.standing.specs.declared.standing.Standing.the-variants.{Known}
-use Rattle.changes.specs.declared.change.Change.{Change}
-use Rattle.changes.specs.declared.change.Change.the-variants.{Meet}
+use Rattle.standing.specs.declared.Standing.{Standing}
+use Rattle.standing.specs.declared.Standing.the-variants.{Known}
+use Rattle.changes.specs.declared.Change.{Change}
+use Rattle.changes.specs.declared.Change.the-variants.{Meet}
 use Rattle.changes.specs.Laws.{put-told}
 use Rattle.character.specs.Fact.{Fact, same?, dcram, cgram, adram, cgramAt, column}
 use Rattle.character.specs.Laws.{every, dcram-apart, cgram-apart, adram-apart}
 use Rattle.character.specs.Move.{shown, marked, drawn}
-use Rattle.character_knowledge.specs.declared.control.Control.{Control}
-use Rattle.character_knowledge.specs.declared.control.Pointing.{Pointing}
-use Rattle.character_knowledge.specs.declared.control.Pointing.the-variants.{At, Unknown}
+use Rattle.character_knowledge.specs.declared.Control.{Control}
+use Rattle.character_knowledge.specs.declared.Pointing.{Pointing}
+use Rattle.character_knowledge.specs.declared.Pointing.the-variants.{At, Unknown}
 use Rattle.character_knowledge.specs.View.{cview, points}
-use Rattle.character_steps.specs.declared.steps.Step.{Step}
+use Rattle.character_steps.specs.declared.Step.{Step}
 use Rattle.character_steps.specs.Step.{Steps}
 use Rattle.character_known.specs.Columns.{column-open, character-open}
 use Rattle.character_known.specs.Ram.{Ram, text, columns, pairs, aimed, changedIn, putIn}

@@ -4,17 +4,17 @@ use Prim.Native.Nat.{ℕ, _/_, _%_, _<_}
 use mathlib.Core.Path.{_≡_, subst}
 use Rattle.knowing.specs.Standing.{Standing, known, unknown}
 use Rattle.standing.specs.View.{stands}
-use Rattle.standing.specs.declared.standing.Standing.the-variants.{Known}
-use Rattle.changes.specs.declared.change.Change.{Change}
-use Rattle.changes.specs.declared.change.Change.the-variants.{Keep, Put, Meet}
-use Rattle.character.specs.declared.chip.Position.{Position}
-use Rattle.character.specs.declared.chip.Position.the-variants.{Dcram, Cgram, Adram}
+use Rattle.standing.specs.declared.Standing.the-variants.{Known}
+use Rattle.changes.specs.declared.Change.{Change}
+use Rattle.changes.specs.declared.Change.the-variants.{Keep, Put, Meet}
+use Rattle.character.specs.declared.Position.{Position}
+use Rattle.character.specs.declared.Position.the-variants.{Dcram, Cgram, Adram}
 use Rattle.character.specs.Value.{at-position}
 use Rattle.character.specs.Fact.{textBits, columnBits, pairBits}
-use Rattle.character_knowledge.specs.declared.control.Control.{Control}
-use Rattle.character_knowledge.specs.declared.control.Pointing.the-variants.{At}
+use Rattle.character_knowledge.specs.declared.Control.{Control}
+use Rattle.character_knowledge.specs.declared.Pointing.the-variants.{At}
 use Rattle.character_knowledge.specs.View.{Memory, points}
-use Rattle.character_steps.specs.declared.steps.Step.{Step}
+use Rattle.character_steps.specs.declared.Step.{Step}
 use Rattle.character_known.specs.declared.astray.Astray.{Astray}
 use Rattle.character_known.specs.declared.astray.Astray.the-variants.{Shown, Drawn, Marked, Anywhere, Not}
 

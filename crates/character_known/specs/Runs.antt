@@ -6,13 +6,13 @@ use native.Mathlib.Omega.{arith}
 use mathlib.Core.Path.{_≡_, refl, sym, ap, _∙_, subst⁻¹}
 use Rattle.knowing.specs.Standing.{Standing, known}
 use Rattle.knowing.specs.Know.{know}
-use Rattle.changes.specs.declared.change.Change.{Change}
+use Rattle.changes.specs.declared.Change.{Change}
 use Rattle.changes.specs.Change.{seen, storedRun}
 use Rattle.terms.specs.declared.Event.the-variants.{ByteIn}
 use Rattle.character.specs.Fact.{Fact, same?, range}
 use Rattle.character.specs.Laws.{every}
 use Rattle.character.specs.Move.{move}
-use Rattle.character_knowledge.specs.declared.control.Control.{Control}
+use Rattle.character_knowledge.specs.declared.Control.{Control}
 use Rattle.character_knowledge.specs.View.{Memory, cview}
 use Rattle.character_steps.specs.Step.{sview, Steps}
 use Rattle.character_known.specs.Ram.{Ram, text, columns, pairs, cells, bits, aimed, Aims, changedIn, putIn, ofRam, withRam}

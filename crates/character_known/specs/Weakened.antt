@@ -14,12 +14,12 @@ use Rattle.rules.specs.Change.{setBits}
 use Rattle.knowing.specs.Standing as Of
 use Rattle.knowing.specs.Know.{lifted, learn, join}
 use Rattle.knowing.specs.Join.{join-itself, join-not}
-use Rattle.standing.specs.declared.standing.Standing.{Standing}
-use Rattle.standing.specs.declared.standing.Standing.the-variants.{Known, Unknown as NotKnown}
+use Rattle.standing.specs.declared.Standing.{Standing}
+use Rattle.standing.specs.declared.Standing.the-variants.{Known, Unknown as NotKnown}
 use Rattle.lamps.specs.View.{shown, OfByte, Meets}
 use Rattle.lamps.specs.Lamp.{wide2, byte-none-past, byte-met-code}
-use Rattle.changes.specs.declared.change.Change.{Change}
-use Rattle.changes.specs.declared.change.Change.the-variants.{Meet}
+use Rattle.changes.specs.declared.Change.{Change}
+use Rattle.changes.specs.declared.Change.the-variants.{Meet}
 use Rattle.changes.specs.Laws.{met-told, bits-told}
 use Rattle.character.specs.declared.command.Command.{Command}
 use Rattle.character.specs.declared.command.Command.the-variants.{Dcram, Cgram, Adram, Port, Duty, Digits, Light, Nothing, Undefined}
@@ -27,9 +27,9 @@ use Rattle.character.specs.Command.{Defined}
 use Rattle.character.specs.Fact.{Fact, same?, dcram, cgram, adram, dcramAt, cgramAt, adramAt, column, port, duty, digits, lights, position}
 use Rattle.character.specs.Laws.{ports-apart}
 use Rattle.character.specs.Move.{commanded}
-use Rattle.character_knowledge.specs.declared.control.Control.{Control}
-use Rattle.character_knowledge.specs.declared.control.Pointing.{Pointing}
-use Rattle.character_knowledge.specs.declared.control.Pointing.the-variants.{At, Unknown}
+use Rattle.character_knowledge.specs.declared.Control.{Control}
+use Rattle.character_knowledge.specs.declared.Pointing.{Pointing}
+use Rattle.character_knowledge.specs.declared.Pointing.the-variants.{At, Unknown}
 use Rattle.character_knowledge.specs.View.{Memory, cview, points}
 
 -- The cells of DCRAM or ADRAM, and the columns of CGRAM, that a byte may have gone to.

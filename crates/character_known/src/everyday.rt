@@ -14,7 +14,7 @@ ghost use mathlib.Core.Path.{_≡_};
 ghost use Rattle.knowing.specs.Standing.{known};
 ghost use Rattle.standing.specs.View.{stands};
 ghost use Rattle.terms.specs.declared.Event.the-variants.{Falls, Rises};
-ghost use Rattle.character.specs.declared.chip.Position.the-variants.{Dcram, Cgram, Adram};
+ghost use Rattle.character.specs.declared.Position.the-variants.{Dcram, Cgram, Adram};
 ghost use Rattle.character.specs.Value.{at-position};
 ghost use Rattle.character.specs.Move.{move};
 ghost use Rattle.character_steps.specs.Step.{Keeps};

@@ -6,8 +6,8 @@ use Rattle.rules.specs.Range.{Good}
 use Rattle.rules.specs.Turn.{Result}
 use Rattle.rules.specs.Results.{HasAnswer, results-exactly}
 use Rattle.terms.specs.declared.Event.{Event}
-use Rattle.character.specs.declared.chip.Character.{Character}
-use Rattle.character.specs.declared.chip.Moved.{Moved}
+use Rattle.character.specs.declared.Character.{Character}
+use Rattle.character.specs.declared.Moved.{Moved}
 use Rattle.character.specs.Fact.{Fact, range}
 use Rattle.character.specs.Move.{move}
 use Rattle.character.specs.Range.{ranged}

@@ -6,7 +6,7 @@ use Rattle.knowing.specs.Standing.{Standing, Within, Sound}
 use Rattle.lamps.specs.Row.{LampsSound, whole-lamps}
 use Rattle.character.specs.Fact.{Fact, range, dcram, cgram, adram, dcramAt, cgramAt, adramAt, column, port, duty, digits, lights, position}
 use Rattle.character.specs.Laws.{every}
-use Rattle.character_knowledge.specs.declared.knowledge.Knowledge.{Knowledge}
+use Rattle.character_knowledge.specs.declared.Knowledge.{Knowledge}
 use Rattle.character_knowledge.specs.View.{kview}
 
 abbrev In : (Fact → Standing) → Fact → Type 0

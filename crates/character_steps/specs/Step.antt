@@ -3,12 +3,12 @@ use Rattle.rules.specs.Rule.{Rule}
 use Rattle.knowing.specs.Standing.{Standing}
 use Rattle.knowing.specs.Steps as Of
 use Rattle.knowing.specs.Ways as Ways
-use Rattle.changes.specs.declared.change.Change.the-variants.{Keep, Forget}
+use Rattle.changes.specs.declared.Change.the-variants.{Keep, Forget}
 use Rattle.changes.specs.Change.{seen, Inside}
 use Rattle.character.specs.Fact.{Fact, same?, range, textBits, columnBits, pairBits}
-use Rattle.character_knowledge.specs.declared.control.Control.{Control}
+use Rattle.character_knowledge.specs.declared.Control.{Control}
 use Rattle.character_knowledge.specs.View.{Memory, blank, cview}
-use Rattle.character_steps.specs.declared.steps.Step.{Step}
+use Rattle.character_steps.specs.declared.Step.{Step}
 
 -- What is known of the memory after a step.
 abbrev pub after : Step → Memory → Memory

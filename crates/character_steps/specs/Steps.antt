@@ -10,10 +10,10 @@ use Rattle.knowing.specs.Ways as Ways
 use Rattle.changes.specs.Change.{Changes}
 use Rattle.character.specs.Fact.{Fact, same?, range, dcram, cgram, adram, dcramAt, cgramAt, adramAt, column, port, duty, digits, lights, position}
 use Rattle.character.specs.Laws.{every}
-use Rattle.character_knowledge.specs.declared.control.Control.{Control}
-use Rattle.character_knowledge.specs.declared.knowledge.Knowledge.{Knowledge}
+use Rattle.character_knowledge.specs.declared.Control.{Control}
+use Rattle.character_knowledge.specs.declared.Knowledge.{Knowledge}
 use Rattle.character_knowledge.specs.View.{Memory, cview, memory, Knows}
-use Rattle.character_steps.specs.declared.steps.Step.{Step}
+use Rattle.character_steps.specs.declared.Step.{Step}
 use Rattle.character_steps.specs.Step.{sview, AllInside, Steps, Keeps, Forgets, keptOf, forgottenOf}
 
 pub kept-steps : {rule : Rule Fact Fact} {c d : Control} {r : Step} → r ≡ keptOf d → Keeps rule c d → Steps rule c r

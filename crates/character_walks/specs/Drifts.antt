@@ -20,8 +20,8 @@ use Rattle.recording.specs.Walk.{Walk}
 use Rattle.character.specs.Command.{commandOf}
 use Rattle.character.specs.Fact.{Fact}
 use Rattle.character.specs.Laws.{every}
-use Rattle.character_knowledge.specs.declared.control.Control.{Control}
-use Rattle.character_knowledge.specs.declared.knowledge.Knowledge.{Knowledge}
+use Rattle.character_knowledge.specs.declared.Control.{Control}
+use Rattle.character_knowledge.specs.declared.Knowledge.{Knowledge}
 use Rattle.character_knowledge.specs.View.{cview, memory, kview}
 use Rattle.character_known.specs.Ram.{Ram, text, columns, pairs, Roams, Adrift}
 use Rattle.character_known.specs.Weakened.{Weakens}

@@ -12,15 +12,15 @@ use Rattle.terms.specs.declared.Event.the-variants.{Falls, ByteIn}
 use Rattle.terms.specs.declared.Part.{Part}
 use Rattle.one_record.specs.declared.glance.Everyday.{Everyday}
 use Rattle.one_record.specs.Glance.{Shows}
-use Rattle.recording.specs.declared.read.Read.the-variants.{Is}
+use Rattle.recording.specs.declared.Read.the-variants.{Is}
 use Rattle.recording.specs.Record.{front}
 use Rattle.recording.specs.Steps.{rest}
 use Rattle.recording.specs.Tests.{record-fits}
 use Rattle.recording.specs.Walk.{Walk}
 use Rattle.character.specs.Fact.{Fact, same?, range, textBits, columnBits, pairBits}
 use Rattle.character.specs.Move.{move}
-use Rattle.character_knowledge.specs.declared.control.Control.{Control}
-use Rattle.character_knowledge.specs.declared.knowledge.Knowledge.{Knowledge}
+use Rattle.character_knowledge.specs.declared.Control.{Control}
+use Rattle.character_knowledge.specs.declared.Knowledge.{Knowledge}
 use Rattle.character_knowledge.specs.View.{kview, Knows}
 use Rattle.character_steps.specs.Step.{Forgets, forgottenOf}
 use Rattle.character_steps.specs.Steps.{forgotten-steps, applied}

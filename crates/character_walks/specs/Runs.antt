@@ -14,8 +14,8 @@ use Rattle.recording.specs.Steps.{rest}
 use Rattle.recording.specs.Walk.{Walk}
 use Rattle.character.specs.Fact.{Fact, same?, range}
 use Rattle.character.specs.Move.{move}
-use Rattle.character_knowledge.specs.declared.control.Control.{Control}
-use Rattle.character_knowledge.specs.declared.knowledge.Knowledge.{Knowledge}
+use Rattle.character_knowledge.specs.declared.Control.{Control}
+use Rattle.character_knowledge.specs.declared.Knowledge.{Knowledge}
 use Rattle.character_knowledge.specs.View.{cview, memory, kview}
 use Rattle.character_known.specs.Ram.{Ram, text, columns, pairs, cells, bits, aimed, Aims, ofRam, withRam}
 use Rattle.character_known.specs.Runs.{in-ram, stored, stored-more, stored-none}

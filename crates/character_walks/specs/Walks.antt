@@ -6,7 +6,7 @@ use Rattle.terms.specs.declared.Part.{Part}
 use Rattle.recording.specs.Walk.{walked, events, endOf}
 use Rattle.character.specs.Fact.{same?, range}
 use Rattle.character.specs.Move.{move}
-use Rattle.character_knowledge.specs.declared.knowledge.Knowledge.{Knowledge}
+use Rattle.character_knowledge.specs.declared.Knowledge.{Knowledge}
 use Rattle.character_knowledge.specs.View.{kview}
 use Rattle.character_walks.specs.declared.CharacterWalked.{CharacterWalked}
 use Rattle.walks.specs.Turn.{InTurn}

@@ -1,9 +1,9 @@
 -- The facts of a PT6302 panel in the checksum, in paper 01's order.
 use Prim.Native.Nat.{ℕ}
-use Rattle.character_knowledge.specs.declared.control.Pointing.{Pointing}
-use Rattle.character_knowledge.specs.declared.control.Pointing.the-variants.{At, Unknown}
-use Rattle.character_knowledge.specs.declared.control.Control.{Control}
-use Rattle.character_knowledge.specs.declared.knowledge.Knowledge.{Knowledge}
+use Rattle.character_knowledge.specs.declared.Pointing.{Pointing}
+use Rattle.character_knowledge.specs.declared.Pointing.the-variants.{At, Unknown}
+use Rattle.character_knowledge.specs.declared.Control.{Control}
+use Rattle.character_knowledge.specs.declared.Knowledge.{Knowledge}
 use Rattle.checksum.specs.Sum.{taken, allTaken, factCode}
 
 abbrev pub addressCode : Pointing → ℕ

@@ -4,8 +4,8 @@ use Rattle.terms.specs.declared.Part.{Part}
 use Rattle.terms.specs.declared.Part.the-variants.{Pt6302, Pt6312, Pt6315}
 use Rattle.terms.specs.declared.PartRead.{PartRead}
 use Rattle.terms.specs.declared.PartRead.the-variants.{Is, Refused}
-use Rattle.segment.specs.declared.chip.Family.the-variants as OfFamily
-use Rattle.panel.specs.declared.knowledge.Panel.{Panel}
+use Rattle.segment.specs.declared.Family.the-variants as OfFamily
+use Rattle.panel.specs.declared.Panel.{Panel}
 use Rattle.answers.specs.declared.Answer.{Answer}
 use Rattle.answers.specs.Answer.{number, place}
 use Rattle.checksum.specs.Sum.{taken}

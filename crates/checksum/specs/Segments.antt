@@ -2,14 +2,14 @@
 use Prim.Native.Nat.{ℕ}
 use mathlib.Core.List.{List}
 use lib.ListN.{take}
-use Rattle.segment.specs.declared.chip.Family.{Family}
-use Rattle.segment.specs.declared.chip.Family.the-variants.{Pt6312, Pt6315}
+use Rattle.segment.specs.declared.Family.{Family}
+use Rattle.segment.specs.declared.Family.the-variants.{Pt6312, Pt6315}
 use Rattle.segment.specs.Family.{sizes}
-use Rattle.standing.specs.declared.standing.Standing.{Standing}
-use Rattle.segment_knowledge.specs.declared.control.Pointing.{Pointing}
-use Rattle.segment_knowledge.specs.declared.control.Pointing.the-variants.{At, Invalid, Unknown}
-use Rattle.segment_knowledge.specs.declared.control.Control.{Control}
-use Rattle.segment_knowledge.specs.declared.knowledge.Knowledge.{Knowledge}
+use Rattle.standing.specs.declared.Standing.{Standing}
+use Rattle.segment_knowledge.specs.declared.Pointing.{Pointing}
+use Rattle.segment_knowledge.specs.declared.Pointing.the-variants.{At, Invalid, Unknown}
+use Rattle.segment_knowledge.specs.declared.Control.{Control}
+use Rattle.segment_knowledge.specs.declared.Knowledge.{Knowledge}
 use Rattle.checksum.specs.Sum.{taken, allTaken, factCode}
 
 -- An invalid address counts as 255.

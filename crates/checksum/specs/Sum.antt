@@ -1,8 +1,8 @@
 -- The checksum: for each number it is 31 times what it was plus the number, modulo the largest prime below 2^32.
 use Prim.Native.Nat.{ℕ, _+_, _*_, _%_}
 use mathlib.Core.List.{List, [], _∷_}
-use Rattle.standing.specs.declared.standing.Standing.{Standing}
-use Rattle.standing.specs.declared.standing.Standing.the-variants.{Known, Unknown}
+use Rattle.standing.specs.declared.Standing.{Standing}
+use Rattle.standing.specs.declared.Standing.the-variants.{Known, Unknown}
 
 abbrev pub taken : ℕ → ℕ → ℕ
 taken sum n = (sum * 31 + n) % 4294967291

@@ -12,11 +12,11 @@ use Rattle.terms.specs.declared.PartRead.the-variants.{Is}
 use Rattle.recording.specs.Walk.{walked, events, endOf}
 use Rattle.recording.specs.Append.{shifted}
 use Rattle.recording.specs.Cut.{walked-append}
-use Rattle.recording.specs.declared.ending.Ending.the-variants.{Done, Stops}
+use Rattle.recording.specs.declared.Ending.the-variants.{Done, Stops}
 use Rattle.recording.specs.Record as Record
 use Rattle.walks.specs.Turn.{turn-on}
 use Rattle.parts.specs.Facts.{Fact, same?, range, move}
-use Rattle.panel.specs.declared.knowledge.Panel.{Panel}
+use Rattle.panel.specs.declared.Panel.{Panel}
 use Rattle.panel.specs.View.{knownOf}
 use Rattle.replay.specs.declared.replays.Replayed.{Replayed}
 use Rattle.answers.specs.Answer.{number, place}

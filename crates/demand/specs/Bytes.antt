@@ -9,8 +9,8 @@ use lib.Dec.{eqb, ltb}
 use Rattle.rules.specs.Choice.{whether-all}
 use Rattle.terms.specs.Event.{Bytes}
 use Rattle.terms.specs.declared.Part.{Part}
-use Rattle.recording.specs.declared.read.Read.{Read}
-use Rattle.recording.specs.declared.read.Read.the-variants.{Is, Refused}
+use Rattle.recording.specs.declared.Read.{Read}
+use Rattle.recording.specs.declared.Read.the-variants.{Is, Refused}
 use Rattle.recording.specs.Record.{listed, belongs, bodyOf, allowed, eventOf, front}
 use Rattle.recording.specs.Walk.{step, walk, events}
 use Rattle.whole.specs.Usual.{Each}

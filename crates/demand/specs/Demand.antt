@@ -16,7 +16,7 @@ use Rattle.terms.specs.Part.{partOf}
 use Rattle.terms.specs.declared.Part.{Part}
 use Rattle.terms.specs.declared.PartRead.the-variants.{Is}
 use Rattle.parts.specs.Facts.{Fact, range}
-use Rattle.panel.specs.declared.knowledge.Panel.{Panel}
+use Rattle.panel.specs.declared.Panel.{Panel}
 use Rattle.panel.specs.View.{knownOf}
 use Rattle.replay.specs.declared.replays.Replayed.{Replayed}
 use Rattle.answers.specs.Answer.{number, place}

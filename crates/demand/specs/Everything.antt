@@ -15,22 +15,22 @@ use Rattle.rules.specs.Digit.{digit, digit-small}
 use Rattle.knowing.specs.Standing.{Standing, known, unknown, Within, Sound}
 use Rattle.terms.specs.declared.Part.{Part}
 use Rattle.terms.specs.declared.Part.the-variants.{Pt6302, Pt6312, Pt6315}
-use Rattle.standing.specs.declared.standing.Standing.the-variants.{Known}
+use Rattle.standing.specs.declared.Standing.the-variants.{Known}
 use Rattle.key_codes.specs.View.{coded}
 use Rattle.lamps.specs.View.{shown, held, OfByte}
 use Rattle.lamps.specs.Lamp.{wide8, wide7, wide4, wide2, none-shown, code-shown}
-use Rattle.segment.specs.declared.chip.Sizes.{Sizes}
-use Rattle.segment.specs.declared.chip.Family.{Family}
-use Rattle.segment.specs.declared.chip.Family.the-variants as OfFamily
+use Rattle.segment.specs.declared.Sizes.{Sizes}
+use Rattle.segment.specs.declared.Family.{Family}
+use Rattle.segment.specs.declared.Family.the-variants as OfFamily
 use Rattle.segment.specs.Family.{sizes}
 use Rattle.segment.specs.Fact as Segment
 use Rattle.segment.specs.Laws as SegmentLaws
 use Rattle.character.specs.Fact as Character
 use Rattle.character.specs.Laws as CharacterLaws
-use Rattle.segment_knowledge.specs.declared.control.Pointing.the-variants as OfSegment
-use Rattle.character_knowledge.specs.declared.control.Pointing.the-variants as OfCharacter
+use Rattle.segment_knowledge.specs.declared.Pointing.the-variants as OfSegment
+use Rattle.character_knowledge.specs.declared.Pointing.the-variants as OfCharacter
 use Rattle.parts.specs.Facts.{Fact, range}
-use Rattle.panel.specs.declared.knowledge.Panel.{Panel}
+use Rattle.panel.specs.declared.Panel.{Panel}
 use Rattle.panel.specs.View.{knownOf}
 use Rattle.whole.specs.Sentence.{IsKnown, StartKnows}
 use Rattle.demand.specs.Met.{no-segment-setting, no-input-setting, no-character-setting, led-set, port-set}

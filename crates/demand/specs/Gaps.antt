@@ -14,10 +14,10 @@ use Rattle.rules.specs.Choice.{whether-all}
 use Rattle.terms.specs.declared.Event.{Event}
 use Rattle.terms.specs.declared.Event.the-variants.{Power, Falls, ByteIn, Rises, Gap, Unfinished, Keys, Switches, ByteOut}
 use Rattle.terms.specs.declared.Part.{Part}
-use Rattle.recording.specs.declared.read.Read.{Read}
-use Rattle.recording.specs.declared.read.Read.the-variants.{Is, Refused}
-use Rattle.recording.specs.declared.ending.Ending.{Ending}
-use Rattle.recording.specs.declared.ending.Ending.the-variants.{Done, Stops}
+use Rattle.recording.specs.declared.Read.{Read}
+use Rattle.recording.specs.declared.Read.the-variants.{Is, Refused}
+use Rattle.recording.specs.declared.Ending.{Ending}
+use Rattle.recording.specs.declared.Ending.the-variants.{Done, Stops}
 use Rattle.recording.specs.Record.{listed, belongs, bodyOf, allowed, eventOf, front}
 use Rattle.recording.specs.Walk.{Walk, next, step, walk, walked, events, endOf, onGap, behindGap}
 use Rattle.recording.specs.Tests.{record-fits}

@@ -25,22 +25,22 @@ use Rattle.recording.specs.Walk.{walked, events, endOf}
 use Rattle.recording.specs.Points.{stops-within}
 use Rattle.recording.specs.Start.{none}
 use Rattle.recording.specs.Cut.{standsAt, Open, cut-told}
-use Rattle.recording.specs.declared.ending.Ending.{Ending}
-use Rattle.recording.specs.declared.ending.Ending.the-variants.{Done, Stops}
-use Rattle.recording.specs.declared.read.Refusal.{Refusal}
-use Rattle.recording.specs.declared.read.Refusal.the-variants.{Unlisted, Foreign, CutShort, Forbidden}
-use Rattle.panel.specs.declared.knowledge.Panel.{Panel}
+use Rattle.recording.specs.declared.Ending.{Ending}
+use Rattle.recording.specs.declared.Ending.the-variants.{Done, Stops}
+use Rattle.recording.specs.declared.Refusal.{Refusal}
+use Rattle.recording.specs.declared.Refusal.the-variants.{Unlisted, Foreign, CutShort, Forbidden}
+use Rattle.panel.specs.declared.Panel.{Panel}
 use Rattle.panel.specs.View.{knownOf, OtherKept}
 use Rattle.answers.specs.declared.Answer.{Answer}
 use Rattle.answers.specs.Answer.{number, place}
 use Rattle.answers.specs.Told.{Answers}
-use Rattle.account.specs.declared.kept.Kept.{Kept}
-use Rattle.account.specs.declared.kept.Kept.the-variants as Stands
+use Rattle.account.specs.declared.Kept.{Kept}
+use Rattle.account.specs.declared.Kept.the-variants as Stands
 use Rattle.account.specs.Bytes.{bytesOf}
 use Rattle.account_tests.specs.Close.{ByLeft}
 use Rattle.account_tests.specs.Tests.{Fits as FitsIn, ByKept}
 use Rattle.account_ends.specs.Ended.{Goes, Halts, ByEnd}
-use Rattle.feed.specs.declared.state.Feed.{Feed}
+use Rattle.feed.specs.declared.Feed.{Feed}
 use Rattle.feed.specs.Feed.{Good, opening, firstPlace}
 use Rattle.feed.specs.Close as Close
 use Rattle.feed.specs.Close.{ClosesPart, Closes}

@@ -11,18 +11,18 @@ use Rattle.terms.specs.declared.Part.{Part}
 use Rattle.terms.specs.declared.PartRead.the-variants.{Is}
 use Rattle.terms.specs.Part.{partOf}
 use Rattle.recording.specs.Walk.{walked, endOf}
-use Rattle.recording.specs.declared.ending.Ending.{Ending}
-use Rattle.recording.specs.declared.ending.Ending.the-variants.{Done, Stops}
-use Rattle.recording.specs.declared.read.Refusal.the-variants.{Unlisted, Foreign, CutShort, Forbidden}
+use Rattle.recording.specs.declared.Ending.{Ending}
+use Rattle.recording.specs.declared.Ending.the-variants.{Done, Stops}
+use Rattle.recording.specs.declared.Refusal.the-variants.{Unlisted, Foreign, CutShort, Forbidden}
 use Rattle.answers.specs.Answer.{number, place}
-use Rattle.account.specs.declared.kept.Kept.{Kept}
-use Rattle.account.specs.declared.kept.Kept.the-variants as Stands
+use Rattle.account.specs.declared.Kept.{Kept}
+use Rattle.account.specs.declared.Kept.the-variants as Stands
 use Rattle.account.specs.Bytes.{bytesOf}
 use Rattle.account_fair.specs.Fair.{stands, MayStand}
 use Rattle.account_tests.specs.Tests.{Fits, ByKept}
 use Rattle.account_ends.specs.declared.ended.Ended.{Ended}
 use Rattle.account_ends.specs.Ended.{ByEnd}
-use Rattle.feed.specs.declared.state.Feed.{Feed}
+use Rattle.feed.specs.declared.Feed.{Feed}
 use Rattle.feed.specs.Feed.{firstPlace}
 use Rattle.packets.specs.declared.records.Taken.{Taken}
 use Rattle.packets.specs.Takes.{ends, RefusedBy, Reads, TakesPart}

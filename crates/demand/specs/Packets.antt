@@ -22,21 +22,21 @@ use Rattle.recording.specs.Append.{shifted}
 use Rattle.recording.specs.Cut.{standsAt, leftBy, Open, open-back, open-on, walked-stops, cut-open, left-behind, left-length}
 use Rattle.recording.specs.Start.{CutOff, none, some, cut-off}
 use Rattle.recording.specs.Points.{stops-within, cut-front}
-use Rattle.recording.specs.declared.ending.Ending.{Ending}
-use Rattle.recording.specs.declared.ending.Ending.the-variants.{Done, Stops}
-use Rattle.recording.specs.declared.read.Refusal.the-variants.{Unlisted, Foreign, CutShort, Forbidden}
-use Rattle.panel.specs.declared.knowledge.Panel.{Panel}
+use Rattle.recording.specs.declared.Ending.{Ending}
+use Rattle.recording.specs.declared.Ending.the-variants.{Done, Stops}
+use Rattle.recording.specs.declared.Refusal.the-variants.{Unlisted, Foreign, CutShort, Forbidden}
+use Rattle.panel.specs.declared.Panel.{Panel}
 use Rattle.panel.specs.View.{knownOf}
 use Rattle.answers.specs.declared.Answer.{Answer}
 use Rattle.answers.specs.Answer.{number, place}
 use Rattle.answers.specs.Unique.{same-answer}
-use Rattle.account.specs.declared.kept.Kept.{Kept}
-use Rattle.account.specs.declared.kept.Kept.the-variants as Stands
+use Rattle.account.specs.declared.Kept.{Kept}
+use Rattle.account.specs.declared.Kept.the-variants as Stands
 use Rattle.account.specs.Bytes.{bytesOf}
 use Rattle.account_fair.specs.Fair.{stands, MayStand}
 use Rattle.account_tests.specs.Tests.{Fits, ByKept}
 use Rattle.account_ends.specs.Ended.{Goes, Halts, ByEnd}
-use Rattle.feed.specs.declared.state.Feed.{Feed}
+use Rattle.feed.specs.declared.Feed.{Feed}
 use Rattle.feed.specs.Feed.{Good, firstPlace}
 use Rattle.packets.specs.declared.records.Taken.{Taken}
 use Rattle.packets.specs.Takes.{ends, RefusedBy, ReadsRow, Reads, TakesPart, Takes}

@@ -19,9 +19,9 @@ use Rattle.terms.specs.declared.Part.{Part}
 use Rattle.terms.specs.declared.Part.the-variants.{Pt6302, Pt6312, Pt6315}
 use Rattle.terms.specs.declared.PartRead.{PartRead}
 use Rattle.terms.specs.declared.PartRead.the-variants.{Is}
-use Rattle.recording.specs.declared.ending.Ending.the-variants.{Done}
+use Rattle.recording.specs.declared.Ending.the-variants.{Done}
 use Rattle.recording.specs.Walk.{walked, events, endOf}
-use Rattle.segment.specs.declared.chip.Family.the-variants as OfFamily
+use Rattle.segment.specs.declared.Family.the-variants as OfFamily
 use Rattle.segment.specs.Family.{sizes}
 use Rattle.parts.specs.Facts.{Fact, range, move}
 use Rattle.painting.specs.declared.Picture.{Picture}
@@ -31,7 +31,7 @@ use Rattle.painting.specs.declared.Painted.{Painted}
 use Rattle.painting.specs.Answer as Paint
 use Rattle.painting.specs.Fits.{segmentFits, characterFits, segment-fits, character-fits}
 use Rattle.painter.specs.ByPart.{sizeFor, painting-length, paint-done, paint-front}
-use Rattle.panel.specs.declared.knowledge.Panel.{Panel}
+use Rattle.panel.specs.declared.Panel.{Panel}
 use Rattle.panel.specs.View.{knownOf, OtherKept}
 use Rattle.replay.specs.declared.replays.Replayed.{Replayed}
 use Rattle.answers.specs.Answer as Replay

@@ -15,7 +15,7 @@ use Rattle.painting.specs.declared.Picture.{Picture}
 use Rattle.painting.specs.Picture.{Shaped}
 use Rattle.painting.specs.declared.Painted.{Painted}
 use Rattle.painting.specs.Answer as Paint
-use Rattle.panel.specs.declared.knowledge.Panel.{Panel}
+use Rattle.panel.specs.declared.Panel.{Panel}
 use Rattle.panel.specs.View.{knownOf}
 use Rattle.replay.specs.declared.replays.Replayed.{Replayed}
 use Rattle.answers.specs.Answer as Replay

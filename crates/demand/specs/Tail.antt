@@ -22,11 +22,11 @@ use Rattle.terms.specs.declared.Part.{Part}
 use Rattle.terms.specs.declared.Part.the-variants.{Pt6302, Pt6312, Pt6315}
 use Rattle.terms.specs.declared.PartRead.{PartRead}
 use Rattle.terms.specs.declared.PartRead.the-variants.{Is}
-use Rattle.recording.specs.declared.ending.Ending.the-variants.{Done}
+use Rattle.recording.specs.declared.Ending.the-variants.{Done}
 use Rattle.recording.specs.Walk.{walked, events, behindGap}
 use Rattle.parts.specs.Facts.{Fact, same?, range, move}
 use Rattle.parts.specs.Laws.{two, ranged}
-use Rattle.panel.specs.declared.knowledge.Panel.{Panel}
+use Rattle.panel.specs.declared.Panel.{Panel}
 use Rattle.panel.specs.View.{knownOf, KnowsNothing}
 use Rattle.replay.specs.declared.replays.Replayed.{Replayed}
 use Rattle.answers.specs.Answer.{number}

@@ -16,10 +16,10 @@ use Rattle.knowing.specs.Turn.{inTurn}
 use Rattle.terms.specs.Part.{partOf}
 use Rattle.terms.specs.declared.Part.the-variants.{Pt6302}
 use Rattle.terms.specs.declared.PartRead.the-variants.{Is}
-use Rattle.recording.specs.declared.ending.Ending.the-variants.{Done}
+use Rattle.recording.specs.declared.Ending.the-variants.{Done}
 use Rattle.recording.specs.Walk.{walked, endOf}
 use Rattle.character.specs.Fact.{Fact, same?, range}
-use Rattle.panel.specs.declared.knowledge.Panel.{Panel}
+use Rattle.panel.specs.declared.Panel.{Panel}
 use Rattle.replay.specs.declared.replays.Replayed.{Replayed}
 use Rattle.answers.specs.Answer.{number}
 use Rattle.replay.specs.Replay.{Replays}

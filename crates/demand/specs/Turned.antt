@@ -13,7 +13,7 @@ use Rattle.terms.specs.declared.Part.{Part}
 use Rattle.walks.specs.Turn.{InTurn}
 use Rattle.parts.specs.Facts.{Fact, same?, range, move}
 use Rattle.parts.specs.Laws.{two, ranged}
-use Rattle.panel.specs.declared.knowledge.Panel.{Panel}
+use Rattle.panel.specs.declared.Panel.{Panel}
 use Rattle.panel.specs.View.{knownOf}
 use Rattle.whole.specs.Usual.{Each}
 use Rattle.whole.specs.Turns.{Chain, KnowsAtLeast}

@@ -22,10 +22,10 @@ use Rattle.terms.specs.declared.Part.{Part}
 use Rattle.terms.specs.declared.Part.the-variants.{Pt6302, Pt6312, Pt6315}
 use Rattle.terms.specs.declared.PartRead.{PartRead}
 use Rattle.terms.specs.declared.PartRead.the-variants.{Is}
-use Rattle.recording.specs.declared.ending.Ending.the-variants.{Done}
+use Rattle.recording.specs.declared.Ending.the-variants.{Done}
 use Rattle.recording.specs.Walk.{walked, events, endOf}
-use Rattle.segment.specs.declared.chip.Family.{Family}
-use Rattle.segment.specs.declared.chip.Family.the-variants as OfFamily
+use Rattle.segment.specs.declared.Family.{Family}
+use Rattle.segment.specs.declared.Family.the-variants as OfFamily
 use Rattle.segment.specs.Family.{sizes}
 use Rattle.segment.specs.Fact as Segment
 use Rattle.segment.specs.Laws.{every}
@@ -36,7 +36,7 @@ use Rattle.painting.specs.declared.SegmentPicture.{SegmentPicture}
 use Rattle.painting.specs.Segment.{painted}
 use Rattle.painting.specs.Picture.{paintedBy, OneEnd}
 use Rattle.painting.specs.Demand.{surely-one}
-use Rattle.panel.specs.declared.knowledge.Panel.{Panel}
+use Rattle.panel.specs.declared.Panel.{Panel}
 use Rattle.panel.specs.View.{knownOf, OtherKept}
 use Rattle.panel.specs.Unique.{Shaped, same-panel}
 use Rattle.replay.specs.declared.replays.Replayed.{Replayed}

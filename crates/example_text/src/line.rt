@@ -1,4 +1,5 @@
 // A line's bytes, one by one: the part byte, then records as paper 01 has them.
+use recording::body_of;
 use terms::Event;
 
 pub struct Line {
@@ -67,15 +68,5 @@ impl Line {
             9 => Event::ByteOut,
             _ => Event::Gap,
         }
-    }
-}
-
-fn body_of(kind: u8) -> u8 {
-    match kind {
-        3 => 1,
-        6 => 1,
-        7 => 4,
-        8 => 1,
-        _ => 0,
     }
 }

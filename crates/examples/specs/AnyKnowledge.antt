@@ -12,10 +12,10 @@ use Rattle.knowing.specs.Look.{look-known, look-unknown}
 use Rattle.terms.specs.declared.Event.the-variants.{ByteIn}
 use Rattle.terms.specs.declared.Part.the-variants as OfPart
 use Rattle.recording.specs.Walk.{walked, events}
-use Rattle.segment.specs.declared.chip.Sizes.{Sizes}
-use Rattle.segment.specs.declared.chip.Family.the-variants.{Pt6312}
-use Rattle.segment.specs.declared.chip.Position.the-variants.{Open}
-use Rattle.segment.specs.declared.chip.Data.the-variants.{WriteDisplay}
+use Rattle.segment.specs.declared.Sizes.{Sizes}
+use Rattle.segment.specs.declared.Family.the-variants.{Pt6312}
+use Rattle.segment.specs.declared.Position.the-variants.{Open}
+use Rattle.segment.specs.declared.Data.the-variants.{WriteDisplay}
 use Rattle.segment.specs.Value.{at-position, data-mode}
 use Rattle.segment.specs.Family.{sizes}
 use Rattle.rules.specs.Digit.{digit, digit-none}

@@ -14,17 +14,17 @@ use Rattle.rules.specs.Change.{setBits}
 use Rattle.knowing.specs.Standing.{Standing, known, unknown}
 use Rattle.knowing.specs.Know.{join, common, keptIf}
 use Rattle.terms.specs.declared.Part.the-variants.{Pt6302, Pt6312, Pt6315}
-use Rattle.segment.specs.declared.chip.Pointer.the-variants.{At, Invalid}
-use Rattle.segment.specs.declared.chip.Data.the-variants.{WriteDisplay, WriteLed}
-use Rattle.segment.specs.declared.chip.Stepping.the-variants.{Increment, Fixed}
-use Rattle.segment.specs.declared.chip.Display.{Display}
-use Rattle.segment.specs.declared.chip.Display.the-variants.{Off, On}
-use Rattle.segment.specs.declared.chip.Position.the-variants.{Open}
+use Rattle.segment.specs.declared.Pointer.the-variants.{At, Invalid}
+use Rattle.segment.specs.declared.Data.the-variants.{WriteDisplay, WriteLed}
+use Rattle.segment.specs.declared.Stepping.the-variants.{Increment, Fixed}
+use Rattle.segment.specs.declared.Display.{Display}
+use Rattle.segment.specs.declared.Display.the-variants.{Off, On}
+use Rattle.segment.specs.declared.Position.the-variants.{Open}
 use Rattle.segment.specs.Value.{pointer, data-mode, steps, shows, at-position}
 use Rattle.segment.specs.Family.{sizes}
 use Rattle.segment.specs.Fact.{cell, address, dataMode, stepping, mode, dimming, display, led, readCount, position}
 use Rattle.segment.specs.Sent.{notDriven}
-use Rattle.character.specs.declared.chip.Lights.the-variants.{Normal}
+use Rattle.character.specs.declared.Lights.the-variants.{Normal}
 use Rattle.character.specs.Fact.{dcram}
 use Rattle.painting.specs.declared.Picture.{Picture}
 use Rattle.examples.specs.Row.{What, Said, _is_, fact, ram, next, Row, replayed, painted, example, AllHold}

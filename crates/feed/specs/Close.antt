@@ -6,7 +6,7 @@ use Rattle.terms.specs.declared.PartRead.the-variants.{Is, Refused}
 use Rattle.answers.specs.declared.Answer.{Answer}
 use Rattle.answers.specs.Told.{Answers}
 use Rattle.account_tests.specs.Close as Account
-use Rattle.feed.specs.declared.state.Feed.{Feed}
+use Rattle.feed.specs.declared.Feed.{Feed}
 use Rattle.feed.specs.Feed.{Good}
 
 abbrev pub Ends : Feed → Answer → Type 0

@@ -5,14 +5,14 @@ use Rattle.knowing.specs.Standing.{Sound}
 use Rattle.terms.specs.declared.Part.{Part}
 use Rattle.parts.specs.Facts.{range}
 use Rattle.recording.specs.Start.{CutOff}
-use Rattle.panel.specs.declared.knowledge.Panel.{Panel}
+use Rattle.panel.specs.declared.Panel.{Panel}
 use Rattle.panel.specs.View.{knownOf}
-use Rattle.account.specs.declared.kept.Kept.the-variants as Stands
+use Rattle.account.specs.declared.Kept.the-variants as Stands
 use Rattle.account.specs.declared.unfinished.Unfinished.the-variants.{None}
 use Rattle.account.specs.Bytes as Bytes
 use Rattle.account.specs.Bytes.{bytesOf}
 use Rattle.account_fair.specs.Fair.{MayStand}
-use Rattle.feed.specs.declared.state.Feed.{Feed}
+use Rattle.feed.specs.declared.Feed.{Feed}
 
 -- Before the first packet nothing is unfinished, no byte has come, and no refusal stands.
 abbrev pub opening : Panel → Feed

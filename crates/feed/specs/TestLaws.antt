@@ -4,7 +4,7 @@ use Rattle.rules.specs.Where.{where-not, where-map}
 use Rattle.terms.specs.declared.Part.{Part}
 use Rattle.account_tests.specs.Tests.{Fits}
 use Rattle.account_tests.specs.TestLaws.{admitted-map, admitted-passed}
-use Rattle.feed.specs.declared.state.Feed.{Feed}
+use Rattle.feed.specs.declared.Feed.{Feed}
 use Rattle.feed.specs.Feed.{Good}
 use Rattle.feed.specs.Tests.{Tested}
 

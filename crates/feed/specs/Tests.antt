@@ -5,7 +5,7 @@ use Rattle.terms.specs.declared.Part.{Part}
 use Rattle.answers.specs.declared.Trial.{Trial}
 use Rattle.answers.specs.Told.{RefusedWith, Passes}
 use Rattle.account_tests.specs.Tests.{Admitted}
-use Rattle.feed.specs.declared.state.Feed.{Feed}
+use Rattle.feed.specs.declared.Feed.{Feed}
 use Rattle.feed.specs.Feed.{Good}
 
 -- R with the number and place of the first test that refuses, P where none does.

@@ -6,7 +6,7 @@ use Rattle.terms.specs.declared.PartRead.the-variants.{Is, Refused}
 use Rattle.answers.specs.declared.Answer.{Answer}
 use Rattle.account.specs.Bytes.{bytesOf}
 use Rattle.account_tests.specs.Unique.{one-answer, one-closing}
-use Rattle.feed.specs.declared.state.Feed.{Feed}
+use Rattle.feed.specs.declared.Feed.{Feed}
 use Rattle.feed.specs.Feed.{firstPlace}
 use Rattle.feed.specs.Close.{Closes}
 

@@ -1,5 +1,5 @@
 // Closing: what the recording comes to if no more packets follow. It changes nothing.
-use crate::state::Feed;
+use crate::Feed;
 use crate::tests::is_good;
 use account_tests::closing;
 use answers::Answer;

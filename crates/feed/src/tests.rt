@@ -1,5 +1,5 @@
 // What a packet is refused for before its first record: test 2 of the knowledge and of the account, and what follows it.
-use crate::state::Feed;
+use crate::Feed;
 use account_fair::is_fair;
 use account_tests::admitted;
 use answers::Answer;

@@ -9,7 +9,7 @@ use Rattle.rules.specs.Choice.{whether}
 use Rattle.knowing.specs.Standing as Of
 use Rattle.knowing.specs.Standing.{Standing}
 use Rattle.knowing.specs.Holds.{isKnown}
-use Rattle.character.specs.declared.chip.Lights.the-variants.{Off, On}
+use Rattle.character.specs.declared.Lights.the-variants.{Off, On}
 use Rattle.character.specs.Value.{lit}
 use Rattle.half_degrees.specs.Half.{signed}
 use Rattle.field.specs.declared.spelling.Five.{Five}

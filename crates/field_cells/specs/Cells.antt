@@ -9,7 +9,7 @@ use lib.ListN.{length, length-set, getD, set}
 use lib.Seq.{getD-set-same, getD-set-other}
 use Rattle.knowing.specs.Standing as Of
 use Rattle.knowing.specs.Standing.{Standing}
-use Rattle.standing.specs.declared.standing.Standing.{Standing as Single}
+use Rattle.standing.specs.declared.Standing.{Standing as Single}
 use Rattle.standing.specs.View.{stands}
 use Rattle.lamps.specs.Whole.{whole}
 use Rattle.field.specs.declared.spelling.Five.{Five}

@@ -7,7 +7,7 @@ use Rattle.terms.specs.declared.Part.{Part}
 use Rattle.terms.specs.declared.PartRead.{PartRead}
 use Rattle.terms.specs.declared.PartRead.the-variants.{Is, Refused}
 use Rattle.parts.specs.Facts.{same?, range, move}
-use Rattle.panel.specs.declared.knowledge.Panel.{Panel}
+use Rattle.panel.specs.declared.Panel.{Panel}
 use Rattle.hearing_answer.specs.Answer.{number, place, Answered}
 use Rattle.hearing.specs.declared.events.Heard.{Heard}
 use Rattle.panel.specs.View.{knownOf, OtherKept}

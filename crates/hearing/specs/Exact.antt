@@ -20,11 +20,11 @@ use Rattle.terms.specs.Event.{Bytes}
 use Rattle.terms.specs.Part.{partOf}
 use Rattle.parts.specs.Facts.{Fact, same?, range, move}
 use Rattle.parts.specs.Laws.{two, ranged}
-use Rattle.recording.specs.declared.read.Read.{Read}
-use Rattle.recording.specs.declared.read.Read.the-variants as Reads
+use Rattle.recording.specs.declared.Read.{Read}
+use Rattle.recording.specs.declared.Read.the-variants as Reads
 use Rattle.recording.specs.Record.{front}
 use Rattle.carrying.specs.Again.{read-again}
-use Rattle.panel.specs.declared.knowledge.Panel.{Panel}
+use Rattle.panel.specs.declared.Panel.{Panel}
 use Rattle.hearing.specs.declared.events.Heard.{Heard}
 use Rattle.rules.specs.Where.{where-good, where-not}
 use Rattle.panel.specs.View.{knownOf}

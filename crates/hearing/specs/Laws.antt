@@ -7,13 +7,13 @@ use Rattle.rules.specs.Where.{where-map}
 use Rattle.terms.specs.declared.Event.{Event}
 use Rattle.terms.specs.declared.Part.{Part}
 use Rattle.terms.specs.declared.PartRead.{PartRead}
-use Rattle.segment.specs.declared.chip.Family.{Family}
-use Rattle.segment.specs.declared.chip.Family.the-variants.{Pt6312, Pt6315}
+use Rattle.segment.specs.declared.Family.{Family}
+use Rattle.segment.specs.declared.Family.the-variants.{Pt6312, Pt6315}
 use Rattle.segment.specs.Family.{sizes}
 use Rattle.segment.specs.Move as SegmentMove
 use Rattle.segment_knowledge.specs.View as OfSegment
 use Rattle.parts.specs.Kind.{inFamily}
-use Rattle.panel.specs.declared.knowledge.Panel.{Panel}
+use Rattle.panel.specs.declared.Panel.{Panel}
 use Rattle.hearing_answer.specs.declared.Answer.{Answer}
 use Rattle.hearing_answer.specs.Answer.{number, Numbered, eventNumber, Answers}
 use Rattle.hearing.specs.declared.events.Heard.{Heard}

@@ -10,7 +10,7 @@ use Rattle.terms.specs.declared.Place.{Place}
 use Rattle.terms.specs.declared.Part.{Part}
 use Rattle.terms.specs.declared.PartRead.{PartRead}
 use Rattle.terms.specs.declared.PartRead.the-variants.{Is as IsPart, Refused}
-use Rattle.panel.specs.declared.knowledge.Panel.{Panel}
+use Rattle.panel.specs.declared.Panel.{Panel}
 use Rattle.hearing_answer.specs.declared.Answer.{Answer}
 use Rattle.hearing_answer.specs.declared.Answer.the-variants as A
 use Rattle.hearing.specs.declared.events.Heard.{Heard}

@@ -6,11 +6,11 @@ use Rattle.terms.specs.declared.Event.{Event}
 use Rattle.terms.specs.declared.Part.{Part}
 use Rattle.terms.specs.Event.{recorded}
 use Rattle.parts.specs.Facts.{range}
-use Rattle.recording.specs.declared.read.Read.{Read}
-use Rattle.recording.specs.declared.read.Read.the-variants.{Is, Refused}
+use Rattle.recording.specs.declared.Read.{Read}
+use Rattle.recording.specs.declared.Read.the-variants.{Is, Refused}
 use Rattle.recording.specs.Record as Record
 use Rattle.recording.specs.Record.{front}
-use Rattle.panel.specs.declared.knowledge.Panel.{Panel}
+use Rattle.panel.specs.declared.Panel.{Panel}
 use Rattle.rules.specs.Where.{Where}
 use Rattle.panel.specs.View.{knownOf}
 use Rattle.hearing_answer.specs.declared.Answer.{Answer}

@@ -13,12 +13,12 @@ use Rattle.knowing.specs.Standing.{Standing, known, unknown, Within, Sound}
 use Rattle.knowing.specs.Holds.{byteIn}
 use Rattle.lamps.specs.View as Lamps
 use Rattle.lamps.specs.Whole.{whole-shown}
-use Rattle.segment.specs.declared.chip.Sizes.{Sizes}
+use Rattle.segment.specs.declared.Sizes.{Sizes}
 use Rattle.segment.specs.Fact as Segment
-use Rattle.segment_knowledge.specs.declared.knowledge.Knowledge as OfSegment
+use Rattle.segment_knowledge.specs.declared.Knowledge as OfSegment
 use Rattle.segment_knowledge.specs.View as SegmentView
 use Rattle.character.specs.Fact as Character
-use Rattle.character_knowledge.specs.declared.knowledge.Knowledge as OfCharacter
+use Rattle.character_knowledge.specs.declared.Knowledge as OfCharacter
 use Rattle.character_knowledge.specs.View as CharacterView
 use Rattle.text.specs.Text.{hex, shown}
 use Rattle.listing.specs.Memory.{cellMarks, columnMarks, pairMarks}

@@ -15,15 +15,15 @@ use Rattle.terms.specs.declared.Part.{Part}
 use Rattle.terms.specs.declared.Part.the-variants.{Pt6302, Pt6312, Pt6315}
 use Rattle.terms.specs.declared.PartRead.the-variants.{Is}
 use Rattle.parts.specs.Facts.{Fact, range}
-use Rattle.segment.specs.declared.chip.Family.{Family}
-use Rattle.segment.specs.declared.chip.Family.the-variants as OfFamily
+use Rattle.segment.specs.declared.Family.{Family}
+use Rattle.segment.specs.declared.Family.the-variants as OfFamily
 use Rattle.segment.specs.Family.{sizes}
 use Rattle.segment.specs.Fact as Segment
 use Rattle.character.specs.Fact as Character
-use Rattle.segment_knowledge.specs.declared.knowledge.Knowledge.{Knowledge}
+use Rattle.segment_knowledge.specs.declared.Knowledge.{Knowledge}
 use Rattle.segment_knowledge.specs.View.{kview}
 use Rattle.segment_knowledge.specs.Unique as OfSegment
-use Rattle.panel.specs.declared.knowledge.Panel.{Panel}
+use Rattle.panel.specs.declared.Panel.{Panel}
 use Rattle.panel.specs.View.{knownOf}
 use Rattle.panel.specs.Unique.{Shaped}
 use Rattle.lines.specs.declared.rows.Names.the-variants.{Addresses, Characters}

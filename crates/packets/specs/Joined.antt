@@ -12,12 +12,12 @@ use Rattle.terms.specs.declared.Part.{Part}
 use Rattle.recording.specs.Record.{bodyOf}
 use Rattle.recording.specs.Walk.{walked, events, endOf}
 use Rattle.recording.specs.Cut.{Open, standsAt, leftBy}
-use Rattle.recording.specs.declared.ending.Ending.{Ending}
-use Rattle.recording.specs.declared.ending.Ending.the-variants.{Done, Stops}
-use Rattle.recording.specs.declared.read.Refusal.{Refusal}
+use Rattle.recording.specs.declared.Ending.{Ending}
+use Rattle.recording.specs.declared.Ending.the-variants.{Done, Stops}
+use Rattle.recording.specs.declared.Refusal.{Refusal}
 use Rattle.walks.specs.Turn.{InTurn}
 use Rattle.parts.specs.Facts.{same?, range, move}
-use Rattle.panel.specs.declared.knowledge.Panel.{Panel}
+use Rattle.panel.specs.declared.Panel.{Panel}
 use Rattle.panel.specs.View.{knownOf, OtherKept}
 use Rattle.account.specs.Bytes.{wholeOf}
 use Rattle.account.specs.Begun.{Begun, still-short, as-long, whole-told}

@@ -8,10 +8,10 @@ use Rattle.terms.specs.declared.Part.{Part}
 use Rattle.terms.specs.declared.Part.the-variants.{Pt6302, Pt6312, Pt6315}
 use Rattle.recording.specs.Walk.{walked, events, endOf}
 use Rattle.recording.specs.Cut.{standsAt, leftBy, Open, cut-open, cut-told, left-behind}
-use Rattle.recording.specs.declared.ending.Ending.{Ending}
+use Rattle.recording.specs.declared.Ending.{Ending}
 use Rattle.walks.specs.Turn.{InTurn, turn-on}
 use Rattle.parts.specs.Facts.{same?, range, move}
-use Rattle.panel.specs.declared.knowledge.Panel.{Panel}
+use Rattle.panel.specs.declared.Panel.{Panel}
 use Rattle.panel.specs.View.{knownOf, OtherKept}
 use Rattle.account_ends.specs.Ended.{Goes, ByEnd}
 use Rattle.account_ends.specs.Laws.{end-on, end-told, end-goes}

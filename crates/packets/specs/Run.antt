@@ -10,7 +10,7 @@ use Rattle.recording.specs.Cut.{Open}
 use Rattle.answers.specs.declared.Answer.{Answer}
 use Rattle.answers.specs.declared.Answer.the-variants.{Done}
 use Rattle.answers.specs.Answer.{number, place}
-use Rattle.feed.specs.declared.state.Feed.{Feed}
+use Rattle.feed.specs.declared.Feed.{Feed}
 use Rattle.packets.specs.declared.records.Taken.{Taken}
 use Rattle.packets.specs.Takes.{Takes}
 

@@ -10,14 +10,14 @@ use Rattle.terms.specs.declared.PartRead.the-variants.{Is, Refused}
 use Rattle.recording.specs.Walk.{walked, events, endOf}
 use Rattle.walks.specs.Turn.{InTurn}
 use Rattle.parts.specs.Facts.{same?, range, move}
-use Rattle.panel.specs.declared.knowledge.Panel.{Panel}
+use Rattle.panel.specs.declared.Panel.{Panel}
 use Rattle.panel.specs.View.{knownOf, OtherKept}
 use Rattle.answers.specs.Answer.{number, place}
 use Rattle.account.specs.declared.unfinished.Unfinished.{Unfinished}
 use Rattle.account.specs.Bytes.{bytesOf, firstPlace}
 use Rattle.account_ends.specs.declared.ended.Ended.{Ended}
 use Rattle.account_ends.specs.Ended.{ByEnd}
-use Rattle.feed.specs.declared.state.Feed.{Feed}
+use Rattle.feed.specs.declared.Feed.{Feed}
 use Rattle.feed.specs.Tests.{Tested}
 use Rattle.packets.specs.declared.records.Taken.{Taken}
 

@@ -8,16 +8,16 @@ use Rattle.terms.specs.declared.Part.{Part}
 use Rattle.terms.specs.declared.PartRead.{PartRead}
 use Rattle.terms.specs.declared.PartRead.the-variants.{Is, Refused}
 use Rattle.recording.specs.Walk.{walked, endOf}
-use Rattle.panel.specs.declared.knowledge.Panel.{Panel}
+use Rattle.panel.specs.declared.Panel.{Panel}
 use Rattle.panel.specs.Unique.{Shaped, same-panel}
 use Rattle.answers.specs.Answer.{number, place}
 use Rattle.answers.specs.Unique.{same-answer}
-use Rattle.account.specs.declared.kept.Kept.{Kept}
-use Rattle.account.specs.declared.kept.Kept.the-variants as Stands
+use Rattle.account.specs.declared.Kept.{Kept}
+use Rattle.account.specs.declared.Kept.the-variants as Stands
 use Rattle.account.specs.Bytes.{bytesOf}
 use Rattle.account_tests.specs.Tests.{ByKept}
 use Rattle.account_ends.specs.Unique.{one-end}
-use Rattle.feed.specs.declared.state.Feed.{Feed}
+use Rattle.feed.specs.declared.Feed.{Feed}
 use Rattle.packets.specs.declared.records.Taken.{Taken}
 use Rattle.packets.specs.Takes.{RefusedBy, ends, taking, ReadsRow, Takes}
 

@@ -7,13 +7,13 @@ use Rattle.recording.specs.Walk.{walked, events, endOf}
 use Rattle.walks.specs.Turn.{InTurn}
 use Rattle.parts.specs.Facts.{same?, range, move}
 use Rattle.parts.specs.Kind.{inFamily}
-use Rattle.segment.specs.declared.chip.Family.{Family}
-use Rattle.segment.specs.declared.chip.Family.the-variants.{Pt6312, Pt6315}
+use Rattle.segment.specs.declared.Family.{Family}
+use Rattle.segment.specs.declared.Family.the-variants.{Pt6312, Pt6315}
 use Rattle.segment.specs.Family.{sizes}
 use Rattle.segment.specs.Fact as SegmentFact
 use Rattle.segment.specs.Move as SegmentMove
 use Rattle.segment_knowledge.specs.View as OfSegment
-use Rattle.panel.specs.declared.knowledge.Panel.{Panel}
+use Rattle.panel.specs.declared.Panel.{Panel}
 use Rattle.panel.specs.View.{knownOf, OtherKept}
 use Rattle.packets.specs.declared.walked.PanelWalked.{PanelWalked}
 

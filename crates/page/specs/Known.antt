@@ -7,7 +7,7 @@ use Rattle.knowing.specs.Standing.{Sound}
 use Rattle.terms.specs.declared.Part.{Part}
 use Rattle.terms.specs.declared.PartRead.the-variants.{Is}
 use Rattle.parts.specs.Facts.{range}
-use Rattle.panel.specs.declared.knowledge.Panel.{Panel}
+use Rattle.panel.specs.declared.Panel.{Panel}
 use Rattle.panel.specs.View.{knownOf}
 use Rattle.panel.specs.Unique.{Shaped}
 use Rattle.answers.specs.declared.Answer.{Answer}

@@ -14,8 +14,8 @@ use Rattle.terms.specs.declared.PartRead.{PartRead}
 use Rattle.terms.specs.declared.PartRead.the-variants.{Is}
 use Rattle.terms.specs.Event.{recording}
 use Rattle.terms.specs.Part.{partOf}
-use Rattle.segment.specs.declared.chip.Family.{Family}
-use Rattle.segment.specs.declared.chip.Family.the-variants as OfFamily
+use Rattle.segment.specs.declared.Family.{Family}
+use Rattle.segment.specs.declared.Family.the-variants as OfFamily
 use Rattle.segment.specs.Family.{sizes}
 use Rattle.segment.specs.Laws.{room}
 use Rattle.character.specs.Value.{lit}

@@ -12,8 +12,8 @@ use Rattle.terms.specs.declared.PartRead.{PartRead}
 use Rattle.terms.specs.declared.PartRead.the-variants.{Is, Refused}
 use Rattle.terms.specs.Part.{partOf}
 use Rattle.terms.specs.Event.{recording}
-use Rattle.segment.specs.declared.chip.Family.{Family}
-use Rattle.segment.specs.declared.chip.Family.the-variants.{Pt6312 as Of6312, Pt6315 as Of6315}
+use Rattle.segment.specs.declared.Family.{Family}
+use Rattle.segment.specs.declared.Family.the-variants.{Pt6312 as Of6312, Pt6315 as Of6315}
 use Rattle.segment.specs.Family.{sizes}
 use Rattle.painting.specs.declared.Picture.{Picture}
 use Rattle.painting.specs.declared.SegmentPicture.{SegmentPicture}

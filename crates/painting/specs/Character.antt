@@ -7,7 +7,7 @@ use Rattle.rules.specs.Choice.{whether}
 use Rattle.rules.specs.Digit.{digit}
 use Rattle.terms.specs.declared.Event.{Event}
 use Rattle.terms.specs.Event.{strobe}
-use Rattle.character.specs.declared.chip.Position.the-variants.{Idle}
+use Rattle.character.specs.declared.Position.the-variants.{Idle}
 use Rattle.character.specs.Fact.{Fact, range, dcram, cgram, adram, dcramAt, cgramAt, adramAt, column, port, duty, digits, lights, position, textBits, columnBits, pairBits, portBits}
 use Rattle.character.specs.Value.{lit, at-position}
 use Rattle.painting.specs.declared.CharacterPicture.{CharacterPicture}

@@ -20,8 +20,8 @@ use Rattle.rules.specs.Walk.{Walked, Next, Row, walk-row, row-ends}
 use Rattle.terms.specs.declared.Event.{Event}
 use Rattle.terms.specs.declared.Event.the-variants.{Falls, ByteIn, Rises}
 use Rattle.terms.specs.Event.{strobe}
-use Rattle.character.specs.declared.chip.Lights.{Lights}
-use Rattle.character.specs.declared.chip.Lights.the-variants.{Normal, Off, On}
+use Rattle.character.specs.declared.Lights.{Lights}
+use Rattle.character.specs.declared.Lights.the-variants.{Normal, Off, On}
 use Rattle.character.specs.declared.command.Command.{Command}
 use Rattle.character.specs.declared.command.Command.the-variants.{Dcram, Cgram, Adram, Port, Duty, Digits, Light}
 use Rattle.character.specs.Fact.{Fact, same?, dcram, cgram, adram, dcramAt, cgramAt, adramAt, column, port, duty, digits, lights, position}

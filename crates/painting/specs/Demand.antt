@@ -8,7 +8,7 @@ use Rattle.rules.specs.Rule.{Rule}
 use Rattle.rules.specs.Turn.{Surely, surely-ends, surely-only}
 use Rattle.terms.specs.declared.Part.{Part}
 use Rattle.terms.specs.declared.Part.the-variants.{Pt6302, Pt6312, Pt6315}
-use Rattle.segment.specs.declared.chip.Family.the-variants as OfFamily
+use Rattle.segment.specs.declared.Family.the-variants as OfFamily
 use Rattle.parts.specs.Facts.{Fact, range, move}
 use Rattle.painting.specs.declared.Picture.{Picture}
 use Rattle.painting.specs.Picture.{Shaped, PictureInRange, eventsFor, paintedBy, OneEnd}

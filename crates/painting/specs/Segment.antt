@@ -7,11 +7,11 @@ use Rattle.rules.specs.Choice.{whether}
 use Rattle.rules.specs.Digit.{digit}
 use Rattle.terms.specs.declared.Event.{Event}
 use Rattle.terms.specs.Event.{strobe}
-use Rattle.segment.specs.declared.chip.Sizes.{Sizes}
-use Rattle.segment.specs.declared.chip.Pointer.the-variants.{At}
-use Rattle.segment.specs.declared.chip.Data.the-variants.{WriteLed}
-use Rattle.segment.specs.declared.chip.Stepping.the-variants.{Increment}
-use Rattle.segment.specs.declared.chip.Position.the-variants.{Idle}
+use Rattle.segment.specs.declared.Sizes.{Sizes}
+use Rattle.segment.specs.declared.Pointer.the-variants.{At}
+use Rattle.segment.specs.declared.Data.the-variants.{WriteLed}
+use Rattle.segment.specs.declared.Stepping.the-variants.{Increment}
+use Rattle.segment.specs.declared.Position.the-variants.{Idle}
 use Rattle.segment.specs.Fact.{Fact, range, cell, address, dataMode, stepping, mode, dimming, display, led, key, switches, readCount, position, cellBits, ledBits}
 use Rattle.segment.specs.Value.{pointer, data-mode, steps, shows, at-position}
 use Rattle.painting.specs.declared.SegmentPicture.{SegmentPicture}

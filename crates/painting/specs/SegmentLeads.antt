@@ -21,15 +21,15 @@ use Rattle.rules.specs.Walk.{Walked, Next, Row, walk-row, row-ends}
 use Rattle.terms.specs.declared.Event.{Event}
 use Rattle.terms.specs.declared.Event.the-variants.{Falls, ByteIn, Rises}
 use Rattle.terms.specs.Event.{strobe}
-use Rattle.segment.specs.declared.chip.Family.{Family}
-use Rattle.segment.specs.declared.chip.Family.the-variants.{Pt6312, Pt6315}
-use Rattle.segment.specs.declared.chip.Sizes.{Sizes}
-use Rattle.segment.specs.declared.chip.Pointer.the-variants.{At}
-use Rattle.segment.specs.declared.chip.Data.the-variants.{WriteDisplay, WriteLed}
-use Rattle.segment.specs.declared.chip.Stepping.the-variants.{Increment}
-use Rattle.segment.specs.declared.chip.Display.{Display}
-use Rattle.segment.specs.declared.chip.Display.the-variants.{Off, On}
-use Rattle.segment.specs.declared.chip.Position.the-variants.{Ignoring}
+use Rattle.segment.specs.declared.Family.{Family}
+use Rattle.segment.specs.declared.Family.the-variants.{Pt6312, Pt6315}
+use Rattle.segment.specs.declared.Sizes.{Sizes}
+use Rattle.segment.specs.declared.Pointer.the-variants.{At}
+use Rattle.segment.specs.declared.Data.the-variants.{WriteDisplay, WriteLed}
+use Rattle.segment.specs.declared.Stepping.the-variants.{Increment}
+use Rattle.segment.specs.declared.Display.{Display}
+use Rattle.segment.specs.declared.Display.the-variants.{Off, On}
+use Rattle.segment.specs.declared.Position.the-variants.{Ignoring}
 use Rattle.segment.specs.declared.command.Command.{Command}
 use Rattle.segment.specs.declared.command.Command.the-variants.{Mode, Setting, Control, Start}
 use Rattle.segment.specs.Family.{sizes}

@@ -8,7 +8,7 @@ use Rattle.segment_knowledge.specs.Unique as OfSegment
 use Rattle.segment_knowledge.specs.View as SegmentView
 use Rattle.segment.specs.Fact as SegmentFact
 use Rattle.character_knowledge.specs.Unique as OfCharacter
-use Rattle.panel.specs.declared.knowledge.Panel.{Panel}
+use Rattle.panel.specs.declared.Panel.{Panel}
 use Rattle.panel.specs.View.{knownOf, OtherKept}
 
 -- Both halves are as long as the arrays of their types. This holds of every knowledge that code hands over.

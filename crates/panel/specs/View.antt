@@ -8,7 +8,7 @@ use Rattle.segment.specs.Fact as Segment
 use Rattle.character.specs.Fact as Character
 use Rattle.segment_knowledge.specs.View as OfSegment
 use Rattle.character_knowledge.specs.View as OfCharacter
-use Rattle.panel.specs.declared.knowledge.Panel.{Panel}
+use Rattle.panel.specs.declared.Panel.{Panel}
 
 -- What is known of each fact of the part: the half of the panel's knowledge that speaks of it, read as facts.
 abbrev pub knownOf : (p : Part) → Panel → Fact p → Standing

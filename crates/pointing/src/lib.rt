@@ -6,8 +6,8 @@ ghost use mathlib.Core.Path.{_≡_};
 ghost use Prim.Native.Nat.{_+_, _<_};
 ghost use lib.ListN.{length, getD};
 ghost use Rattle.recording.specs.Record.{placeWithin};
-ghost use Rattle.recording.specs.declared.read.Refusal.the-variants.{Forbidden};
-ghost use Rattle.recording.specs.declared.ending.Ending.the-variants.{Stops};
+ghost use Rattle.recording.specs.declared.Refusal.the-variants.{Forbidden};
+ghost use Rattle.recording.specs.declared.Ending.the-variants.{Stops};
 
 // The place of a refusal, where the record that is none starts at the place `first`. The kind is looked at for every refusal: so compiled, a walk takes
 // two to four instructions a record less than with the look in the last arm.

@@ -19,10 +19,10 @@ use Rattle.terms.specs.Part.{partOf}
 use Rattle.terms.specs.declared.Part.the-variants.{Pt6302, Pt6312, Pt6315}
 use Rattle.terms.specs.declared.PartRead.{PartRead}
 use Rattle.terms.specs.declared.PartRead.the-variants.{Is, Refused}
-use Rattle.character.specs.declared.chip.Lights.the-variants.{Normal, Off, On}
+use Rattle.character.specs.declared.Lights.the-variants.{Normal, Off, On}
 use Rattle.character.specs.Value.{lit}
 use Rattle.character.specs.Fact.{Fact, range, dcram, lights, digits}
-use Rattle.panel.specs.declared.knowledge.Panel.{Panel}
+use Rattle.panel.specs.declared.Panel.{Panel}
 use Rattle.panel.specs.View.{knownOf}
 use Rattle.whole.specs.Turns.{KnowsAtLeast}
 use Rattle.half_degrees.specs.Half.{signed, InHalves, Halved}

@@ -10,7 +10,7 @@ use Rattle.rules.specs.Choice.{whether}
 use Rattle.knowing.specs.Standing.{Standing, known}
 use Rattle.knowing.specs.Standing as Of
 use Rattle.knowing.specs.Holds.{isKnown, is-known}
-use Rattle.character.specs.declared.chip.Lights.the-variants.{Off, On}
+use Rattle.character.specs.declared.Lights.the-variants.{Off, On}
 use Rattle.character.specs.Value.{lit}
 use Rattle.field.specs.declared.spelling.Five.{Five}
 use Rattle.field.specs.Said.{Said, reading, dark, unknown}

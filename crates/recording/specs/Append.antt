@@ -12,11 +12,11 @@ use Rattle.rules.specs.Choice.{whether}
 use Rattle.terms.specs.declared.Event.{Event}
 use Rattle.terms.specs.declared.Event.the-variants.{ByteOut}
 use Rattle.terms.specs.declared.Part.{Part}
-use Rattle.recording.specs.declared.read.Read.{Read}
-use Rattle.recording.specs.declared.read.Read.the-variants.{Is, Refused}
-use Rattle.recording.specs.declared.read.Refusal.the-variants.{Unlisted, Foreign, CutShort, Forbidden}
-use Rattle.recording.specs.declared.ending.Ending.{Ending}
-use Rattle.recording.specs.declared.ending.Ending.the-variants.{Done, Stops}
+use Rattle.recording.specs.declared.Read.{Read}
+use Rattle.recording.specs.declared.Read.the-variants.{Is, Refused}
+use Rattle.recording.specs.declared.Refusal.the-variants.{Unlisted, Foreign, CutShort, Forbidden}
+use Rattle.recording.specs.declared.Ending.{Ending}
+use Rattle.recording.specs.declared.Ending.the-variants.{Done, Stops}
 use Rattle.recording.specs.Record.{listed, belongs, bodyOf, ofBody, ofKind, front, placeWithin}
 use Rattle.recording.specs.Walk.{Walk, step, walk, events, endOf}
 use Rattle.recording.specs.Laws.{other-body}

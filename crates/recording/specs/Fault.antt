@@ -11,8 +11,8 @@ use borrow.Author.Tests.{eqb-true}
 use Rattle.rules.specs.Choice.{whether}
 use Rattle.terms.specs.declared.Event.{Event}
 use Rattle.terms.specs.declared.Part.{Part}
-use Rattle.recording.specs.declared.read.Read.the-variants.{Is, Refused}
-use Rattle.recording.specs.declared.read.Refusal.the-variants.{Forbidden}
+use Rattle.recording.specs.declared.Read.the-variants.{Is, Refused}
+use Rattle.recording.specs.declared.Refusal.the-variants.{Forbidden}
 use Rattle.recording.specs.Record.{listed, belongs, bodyOf, allowed, eventOf, ofBody, front}
 use Rattle.recording.specs.Laws.{kind-at, at-body}
 use Rattle.recording.specs.Tests.{Forbids, forbids}

@@ -10,9 +10,9 @@ use lib.Seq.{getD-drop, take-all}
 use borrow.Author.Tests.{ne-eqb, lt-ltb, le-ltb}
 use Rattle.terms.specs.declared.Event.the-variants.{ByteOut}
 use Rattle.terms.specs.declared.Part.{Part}
-use Rattle.recording.specs.declared.read.Read.{Read}
-use Rattle.recording.specs.declared.read.Read.the-variants.{Is, Refused}
-use Rattle.recording.specs.declared.read.Refusal.the-variants.{Unlisted, Foreign, CutShort}
+use Rattle.recording.specs.declared.Read.{Read}
+use Rattle.recording.specs.declared.Read.the-variants.{Is, Refused}
+use Rattle.recording.specs.declared.Refusal.the-variants.{Unlisted, Foreign, CutShort}
 use Rattle.recording.specs.Record.{listed, keyed, switched, belongs, bodyOf, ofUnfinished, ofSwitches, ofKeys, ofBody, ofKind, front}
 
 pub no-body : (k : ℕ) → ¬ (k ≡ 3) → ¬ (k ≡ 6) → ¬ (k ≡ 7) → ¬ (k ≡ 8) → bodyOf k ≡ 0

@@ -11,12 +11,12 @@ use borrow.Author.Tests.{ltb-true, ltb-false}
 use Rattle.terms.specs.declared.Event.{Event}
 use Rattle.terms.specs.declared.Place.{Place}
 use Rattle.terms.specs.declared.Part.{Part}
-use Rattle.recording.specs.declared.read.Read.{Read}
-use Rattle.recording.specs.declared.read.Read.the-variants.{Is, Refused}
-use Rattle.recording.specs.declared.read.Refusal.{Refusal}
-use Rattle.recording.specs.declared.read.Refusal.the-variants.{CutShort}
-use Rattle.recording.specs.declared.ending.Ending.{Ending}
-use Rattle.recording.specs.declared.ending.Ending.the-variants.{Done, Stops}
+use Rattle.recording.specs.declared.Read.{Read}
+use Rattle.recording.specs.declared.Read.the-variants.{Is, Refused}
+use Rattle.recording.specs.declared.Refusal.{Refusal}
+use Rattle.recording.specs.declared.Refusal.the-variants.{CutShort}
+use Rattle.recording.specs.declared.Ending.{Ending}
+use Rattle.recording.specs.declared.Ending.the-variants.{Done, Stops}
 use Rattle.recording.specs.Record.{front, placeWithin}
 use Rattle.recording.specs.Walk.{walked, endOf}
 use Rattle.recording.specs.Tests.{record-fits}

@@ -10,8 +10,8 @@ use lib.Dec.{eqb}
 use borrow.Author.Tests.{le-ltb}
 use Rattle.rules.specs.Choice.{whether, whether-all}
 use Rattle.terms.specs.declared.Part.{Part}
-use Rattle.recording.specs.declared.read.Read.the-variants.{Refused}
-use Rattle.recording.specs.declared.read.Refusal.the-variants.{CutShort}
+use Rattle.recording.specs.declared.Read.the-variants.{Refused}
+use Rattle.recording.specs.declared.Refusal.the-variants.{CutShort}
 use Rattle.recording.specs.Record.{bodyOf, front}
 use Rattle.recording.specs.Tests.{Starts}
 

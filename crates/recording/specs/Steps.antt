@@ -13,14 +13,14 @@ use Rattle.terms.specs.declared.Event.{Event}
 use Rattle.terms.specs.declared.Event.the-variants.{Power, Falls, ByteIn, Rises, Gap, Unfinished, Keys, Switches, ByteOut}
 use Rattle.terms.specs.declared.Place.{Place}
 use Rattle.terms.specs.declared.Part.{Part}
-use Rattle.recording.specs.declared.read.Read.{Read}
-use Rattle.recording.specs.declared.read.Read.the-variants.{Is, Refused}
-use Rattle.recording.specs.declared.read.Refusal.{Refusal}
-use Rattle.recording.specs.declared.read.Refusal.the-variants.{Unlisted, Foreign, CutShort, Forbidden}
+use Rattle.recording.specs.declared.Read.{Read}
+use Rattle.recording.specs.declared.Read.the-variants.{Is, Refused}
+use Rattle.recording.specs.declared.Refusal.{Refusal}
+use Rattle.recording.specs.declared.Refusal.the-variants.{Unlisted, Foreign, CutShort, Forbidden}
 use Rattle.recording.specs.Record.{bodyOf, allowed, front, placeWithin}
 use Rattle.recording.specs.Laws.{kind-at}
 use Rattle.recording.specs.Tests.{record-fits, forbids, eight-kinds}
-use Rattle.recording.specs.declared.ending.Ending.the-variants.{Stops}
+use Rattle.recording.specs.declared.Ending.the-variants.{Stops}
 use Rattle.recording.specs.Walk.{Walk, done, stops, next, step, walk, onGap, behindGap}
 
 -- A value that is not allowed stands in the body.

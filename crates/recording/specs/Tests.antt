@@ -13,9 +13,9 @@ use Rattle.rules.specs.Choice.{whether, whether-all}
 use Rattle.terms.specs.declared.Event.{Event}
 use Rattle.terms.specs.declared.Part.{Part}
 use Rattle.terms.specs.declared.Part.the-variants.{Pt6302, Pt6312, Pt6315}
-use Rattle.recording.specs.declared.read.Read.{Read}
-use Rattle.recording.specs.declared.read.Read.the-variants.{Is, Refused}
-use Rattle.recording.specs.declared.read.Refusal.the-variants.{Unlisted, Foreign, CutShort, Forbidden}
+use Rattle.recording.specs.declared.Read.{Read}
+use Rattle.recording.specs.declared.Read.the-variants.{Is, Refused}
+use Rattle.recording.specs.declared.Refusal.the-variants.{Unlisted, Foreign, CutShort, Forbidden}
 use Rattle.recording.specs.Record.{listed, belongs, bodyOf, bitsAllowed, switchesAllowed, fourthAllowed, allowed, front}
 
 -- 7: the kind is of the part, and at least one byte of the body is missing.

@@ -11,14 +11,14 @@ use Rattle.terms.specs.declared.Event.{Event}
 use Rattle.terms.specs.declared.Event.the-variants.{ByteIn, Rises}
 use Rattle.terms.specs.declared.Part.{Part}
 use Rattle.terms.specs.Event.{recorded, recording, strobe}
-use Rattle.recording.specs.declared.read.Read.the-variants.{Is}
-use Rattle.recording.specs.declared.ending.Ending.the-variants.{Done}
+use Rattle.recording.specs.declared.Read.the-variants.{Is}
+use Rattle.recording.specs.declared.Ending.the-variants.{Done}
 use Rattle.recording.specs.Record.{front}
 use Rattle.recording.specs.Walk.{Walk, next, step, walk, walked, events, endOf}
 use Rattle.recording.specs.Tests.{record-fits}
 use Rattle.recording.specs.Append.{front-append}
 use Rattle.whole.specs.Usual.{Each}
-use Rattle.segment.specs.declared.chip.Sizes.{Sizes}
+use Rattle.segment.specs.declared.Sizes.{Sizes}
 use Rattle.character.specs.Value.{lit}
 use Rattle.painting.specs.declared.SegmentPicture.{SegmentPicture}
 use Rattle.painting.specs.declared.CharacterPicture.{CharacterPicture}

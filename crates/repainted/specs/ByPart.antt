@@ -6,7 +6,7 @@ use Rattle.knowing.specs.Standing.{Standing}
 use Rattle.knowing.specs.Turn.{inTurn}
 use Rattle.terms.specs.declared.Part.{Part}
 use Rattle.terms.specs.declared.Part.the-variants.{Pt6302, Pt6312, Pt6315}
-use Rattle.segment.specs.declared.chip.Family.the-variants as OfFamily
+use Rattle.segment.specs.declared.Family.the-variants as OfFamily
 use Rattle.segment.specs.Family.{sizes}
 use Rattle.parts.specs.Facts.{Fact, same?, range, move}
 use Rattle.painting.specs.declared.Picture.{Picture}

@@ -22,8 +22,8 @@ use Rattle.terms.specs.declared.Event.{Event}
 use Rattle.terms.specs.declared.Event.the-variants.{ByteIn}
 use Rattle.terms.specs.Event.{strobe}
 use Rattle.character.specs.Fact.{Fact, same?, range, dcram, cgram, adram, dcramAt, cgramAt, adramAt, column, port, duty, digits, lights, position}
-use Rattle.character.specs.declared.chip.Lights.{Lights}
-use Rattle.character.specs.declared.chip.Lights.the-variants.{Normal, Off, On}
+use Rattle.character.specs.declared.Lights.{Lights}
+use Rattle.character.specs.declared.Lights.the-variants.{Normal, Off, On}
 use Rattle.character.specs.Value.{lit}
 use Rattle.character.specs.Command.{commandOf, Defined}
 use Rattle.character.specs.Move.{Forms, sets, spells, commanded, drawn, byteIn, move}

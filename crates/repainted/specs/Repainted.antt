@@ -6,16 +6,16 @@ use Rattle.rules.specs.Digit.{digit}
 use Rattle.knowing.specs.Standing.{Standing, known}
 use Rattle.terms.specs.declared.Part.{Part}
 use Rattle.terms.specs.declared.Part.the-variants.{Pt6302, Pt6312, Pt6315}
-use Rattle.segment.specs.declared.chip.Family.the-variants as OfFamily
-use Rattle.segment.specs.declared.chip.Sizes.{Sizes}
-use Rattle.segment.specs.declared.chip.Pointer.the-variants.{At}
-use Rattle.segment.specs.declared.chip.Data.the-variants.{WriteLed}
-use Rattle.segment.specs.declared.chip.Stepping.the-variants.{Increment}
-use Rattle.segment.specs.declared.chip.Position.the-variants as SegmentPosition
+use Rattle.segment.specs.declared.Family.the-variants as OfFamily
+use Rattle.segment.specs.declared.Sizes.{Sizes}
+use Rattle.segment.specs.declared.Pointer.the-variants.{At}
+use Rattle.segment.specs.declared.Data.the-variants.{WriteLed}
+use Rattle.segment.specs.declared.Stepping.the-variants.{Increment}
+use Rattle.segment.specs.declared.Position.the-variants as SegmentPosition
 use Rattle.segment.specs.Family.{sizes}
 use Rattle.segment.specs.Fact as Segment
 use Rattle.segment.specs.Value.{pointer, data-mode, steps, shows, at-position}
-use Rattle.character.specs.declared.chip.Position.the-variants as CharacterPosition
+use Rattle.character.specs.declared.Position.the-variants as CharacterPosition
 use Rattle.character.specs.Fact as Character
 use Rattle.character.specs.Value as CharacterValue
 use Rattle.parts.specs.Facts.{Fact}

@@ -28,12 +28,12 @@ use Rattle.whole.specs.Sentence.{IsKnown}
 use Rattle.terms.specs.declared.Event.{Event}
 use Rattle.terms.specs.declared.Event.the-variants.{Falls, ByteIn, Rises}
 use Rattle.terms.specs.Event.{strobe}
-use Rattle.segment.specs.declared.chip.Family.{Family}
-use Rattle.segment.specs.declared.chip.Sizes.{Sizes}
-use Rattle.segment.specs.declared.chip.Display.{Display}
-use Rattle.segment.specs.declared.chip.Display.the-variants.{Off, On}
-use Rattle.segment.specs.declared.chip.Position.{Position}
-use Rattle.segment.specs.declared.chip.Position.the-variants.{Open, Ignoring}
+use Rattle.segment.specs.declared.Family.{Family}
+use Rattle.segment.specs.declared.Sizes.{Sizes}
+use Rattle.segment.specs.declared.Display.{Display}
+use Rattle.segment.specs.declared.Display.the-variants.{Off, On}
+use Rattle.segment.specs.declared.Position.{Position}
+use Rattle.segment.specs.declared.Position.the-variants.{Open, Ignoring}
 use Rattle.segment.specs.declared.command.Command.the-variants.{Mode}
 use Rattle.segment.specs.Family.{sizes}
 use Rattle.segment.specs.Fact.{Fact, same?, range, cell, address, dataMode, stepping, mode, dimming, display, led, key, switches, readCount, position}

@@ -12,12 +12,12 @@ use Rattle.terms.specs.declared.PartRead.{PartRead}
 use Rattle.terms.specs.declared.PartRead.the-variants.{Is}
 use Rattle.recording.specs.Record as Record
 use Rattle.recording.specs.Walk.{walked, events, endOf}
-use Rattle.recording.specs.declared.ending.Ending.{Ending}
-use Rattle.recording.specs.declared.ending.Ending.the-variants.{Done, Stops}
-use Rattle.recording.specs.declared.read.Refusal.{Refusal}
-use Rattle.recording.specs.declared.read.Refusal.the-variants.{Unlisted, Foreign, CutShort, Forbidden}
+use Rattle.recording.specs.declared.Ending.{Ending}
+use Rattle.recording.specs.declared.Ending.the-variants.{Done, Stops}
+use Rattle.recording.specs.declared.Refusal.{Refusal}
+use Rattle.recording.specs.declared.Refusal.the-variants.{Unlisted, Foreign, CutShort, Forbidden}
 use Rattle.parts.specs.Facts.{range}
-use Rattle.panel.specs.declared.knowledge.Panel.{Panel}
+use Rattle.panel.specs.declared.Panel.{Panel}
 use Rattle.panel.specs.View.{knownOf}
 use Rattle.replay.specs.declared.replays.Replayed.{Replayed}
 use Rattle.answers.specs.Answer.{number}

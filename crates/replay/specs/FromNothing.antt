@@ -2,7 +2,7 @@
 use Prim.Native.Nat.{ℕ}
 use mathlib.Core.List.{List}
 use Rattle.terms.specs.Part.{partOf}
-use Rattle.panel.specs.declared.knowledge.Panel.{Panel}
+use Rattle.panel.specs.declared.Panel.{Panel}
 use Rattle.panel.specs.View.{KnowsNothing}
 use Rattle.replay.specs.declared.replays.Replayed.{Replayed}
 use Rattle.replay.specs.Replay.{Replays}

@@ -7,7 +7,7 @@ use mathlib.Core.List.{List}
 use Rattle.terms.specs.declared.Part.{Part}
 use Rattle.terms.specs.declared.PartRead.the-variants.{Is}
 use Rattle.terms.specs.Part.{partOf}
-use Rattle.panel.specs.declared.knowledge.Panel.{Panel}
+use Rattle.panel.specs.declared.Panel.{Panel}
 use Rattle.answers.specs.Answer.{number}
 use Rattle.answers.specs.Points.{PointsIn, points-in}
 use Rattle.replay.specs.declared.replays.Replayed.{Replayed}

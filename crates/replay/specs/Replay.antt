@@ -11,11 +11,11 @@ use Rattle.terms.specs.declared.PartRead.{PartRead}
 use Rattle.terms.specs.declared.PartRead.the-variants.{Is, Refused}
 use Rattle.recording.specs.Record as Record
 use Rattle.recording.specs.Walk.{walked, events, endOf}
-use Rattle.recording.specs.declared.ending.Ending.{Ending}
-use Rattle.recording.specs.declared.ending.Ending.the-variants.{Done, Stops}
+use Rattle.recording.specs.declared.Ending.{Ending}
+use Rattle.recording.specs.declared.Ending.the-variants.{Done, Stops}
 use Rattle.walks.specs.Turn.{InTurn}
 use Rattle.parts.specs.Facts.{same?, range, move}
-use Rattle.panel.specs.declared.knowledge.Panel.{Panel}
+use Rattle.panel.specs.declared.Panel.{Panel}
 use Rattle.panel.specs.View.{knownOf, OtherKept}
 use Rattle.answers.specs.Answer.{number, place}
 use Rattle.replay_tests.specs.Tests.{Tested}

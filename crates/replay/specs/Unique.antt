@@ -8,11 +8,11 @@ use Rattle.terms.specs.declared.Part.{Part}
 use Rattle.terms.specs.declared.PartRead.{PartRead}
 use Rattle.terms.specs.declared.PartRead.the-variants.{Is, Refused}
 use Rattle.terms.specs.declared.Event.{Event}
-use Rattle.recording.specs.declared.ending.Ending.{Ending}
-use Rattle.recording.specs.declared.ending.Ending.the-variants as Ended
+use Rattle.recording.specs.declared.Ending.{Ending}
+use Rattle.recording.specs.declared.Ending.the-variants as Ended
 use Rattle.recording.specs.Record as Record
 use Rattle.recording.specs.Walk.{walked, events, endOf}
-use Rattle.panel.specs.declared.knowledge.Panel.{Panel}
+use Rattle.panel.specs.declared.Panel.{Panel}
 use Rattle.panel.specs.Unique.{Shaped, same-panel}
 use Rattle.replay.specs.declared.replays.Replayed.{Replayed}
 use Rattle.answers.specs.Answer.{number, place}

@@ -7,17 +7,17 @@ use Rattle.terms.specs.declared.Part.{Part}
 use Rattle.terms.specs.declared.Part.the-variants.{Pt6302}
 use Rattle.terms.specs.declared.Place.{Place}
 use Rattle.recording.specs.Walk.{walked, endOf}
-use Rattle.recording.specs.declared.ending.Ending.{Ending}
-use Rattle.recording.specs.declared.ending.Ending.the-variants.{Done, Stops}
-use Rattle.recording.specs.declared.read.Refusal.{Refusal}
-use Rattle.segment.specs.declared.chip.Family.{Family}
-use Rattle.segment.specs.declared.chip.Family.the-variants.{Pt6312, Pt6315}
+use Rattle.recording.specs.declared.Ending.{Ending}
+use Rattle.recording.specs.declared.Ending.the-variants.{Done, Stops}
+use Rattle.recording.specs.declared.Refusal.{Refusal}
+use Rattle.segment.specs.declared.Family.{Family}
+use Rattle.segment.specs.declared.Family.the-variants.{Pt6312, Pt6315}
 use Rattle.segment_walks.specs.declared.SegmentWalked.{SegmentWalked}
 use Rattle.segment_walks.specs.Walks as OfSegment
 use Rattle.character_walks.specs.declared.CharacterWalked.{CharacterWalked}
 use Rattle.character_walks.specs.Walks as OfCharacter
 use Rattle.parts.specs.Kind.{inFamily}
-use Rattle.panel.specs.declared.knowledge.Panel.{Panel}
+use Rattle.panel.specs.declared.Panel.{Panel}
 use Rattle.answers.specs.declared.Answer.{Answer}
 use Rattle.answers.specs.Answer.{number, place, refused-as}
 use Rattle.answers.specs.Ended.{endedAs}

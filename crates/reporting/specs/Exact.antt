@@ -12,14 +12,14 @@ use Rattle.terms.specs.declared.PartRead.the-variants.{Is}
 use Rattle.terms.specs.Part.{partOf}
 use Rattle.parts.specs.Facts.{same?, range}
 use Rattle.parts.specs.Laws.{two}
-use Rattle.segment.specs.declared.chip.Family.{Family}
-use Rattle.segment.specs.declared.chip.Family.the-variants as OfFamily
+use Rattle.segment.specs.declared.Family.{Family}
+use Rattle.segment.specs.declared.Family.the-variants as OfFamily
 use Rattle.segment.specs.Family.{sizes}
 use Rattle.segment.specs.Fact as Segment
 use Rattle.segment.specs.Range as SegmentRange
 use Rattle.segment.specs.Sent.{sent}
 use Rattle.segment_knowledge.specs.View.{kview}
-use Rattle.panel.specs.declared.knowledge.Panel.{Panel}
+use Rattle.panel.specs.declared.Panel.{Panel}
 use Rattle.reporting.specs.declared.reports.Report.{Report}
 use Rattle.rules.specs.Where.{good, bad}
 use Rattle.reporting.specs.Laws.{tells-as}

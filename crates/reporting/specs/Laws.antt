@@ -1,7 +1,7 @@
 -- What is promised by what was read of a part byte is promised of what that is.
 use mathlib.Core.Path.{_≡_, subst}
 use Rattle.terms.specs.declared.PartRead.{PartRead}
-use Rattle.panel.specs.declared.knowledge.Panel.{Panel}
+use Rattle.panel.specs.declared.Panel.{Panel}
 use Rattle.reporting.specs.declared.reports.Report.{Report}
 use Rattle.reporting.specs.Report.{Tells}
 

@@ -7,14 +7,14 @@ use Rattle.terms.specs.declared.Part.{Part}
 use Rattle.terms.specs.declared.Part.the-variants.{Pt6302, Pt6312, Pt6315}
 use Rattle.terms.specs.declared.PartRead.{PartRead}
 use Rattle.terms.specs.declared.PartRead.the-variants.{Is as IsPart, Refused}
-use Rattle.segment.specs.declared.chip.Family.{Family}
-use Rattle.segment.specs.declared.chip.Family.the-variants as OfFamily
+use Rattle.segment.specs.declared.Family.{Family}
+use Rattle.segment.specs.declared.Family.the-variants as OfFamily
 use Rattle.segment.specs.Family.{sizes}
 use Rattle.segment.specs.Fact.{same?, range}
 use Rattle.segment.specs.Sent.{sent}
 use Rattle.segment_knowledge.specs.View.{kview}
 use Rattle.sendings.specs.Report.{sending}
-use Rattle.panel.specs.declared.knowledge.Panel.{Panel}
+use Rattle.panel.specs.declared.Panel.{Panel}
 use Rattle.reporting.specs.declared.reports.Report.{Report}
 use Rattle.reporting.specs.declared.reports.Report.the-variants.{Is, NoPart, OutOfRange}
 use Rattle.rules.specs.Where.{Where}

@@ -7,12 +7,12 @@ use Rattle.knowing.specs.Standing as Standing
 use Rattle.terms.specs.declared.Part.the-variants.{Pt6302, Pt6312, Pt6315}
 use Rattle.terms.specs.declared.PartRead.{PartRead}
 use Rattle.terms.specs.declared.PartRead.the-variants.{Is as IsPart, Refused}
-use Rattle.segment.specs.declared.chip.Family.{Family}
-use Rattle.segment.specs.declared.chip.Family.the-variants as OfFamily
+use Rattle.segment.specs.declared.Family.{Family}
+use Rattle.segment.specs.declared.Family.the-variants as OfFamily
 use Rattle.sendings.specs.declared.Sending.{Sending}
 use Rattle.sendings.specs.declared.Sending.the-variants.{Byte, NotDriven, Unknown}
 use Rattle.sendings.specs.Report.{sending}
-use Rattle.panel.specs.declared.knowledge.Panel.{Panel}
+use Rattle.panel.specs.declared.Panel.{Panel}
 use Rattle.reporting.specs.declared.reports.Report.{Report}
 use Rattle.reporting.specs.declared.reports.Report.the-variants as R
 use Rattle.rules.specs.Where.{where-both}

@@ -5,14 +5,14 @@ use lib.Dec.{ltb}
 use Rattle.rules.specs.Choice.{whether, bit, of4}
 use Rattle.segment.specs.declared.command.Command.{Command}
 use Rattle.segment.specs.declared.command.Command.the-variants.{Mode, Test, Setting, AnySetting, Control, Start}
-use Rattle.segment.specs.declared.chip.Pointer.{Pointer}
-use Rattle.segment.specs.declared.chip.Pointer.the-variants.{At, Invalid}
-use Rattle.segment.specs.declared.chip.Data.the-variants.{WriteDisplay, WriteLed, ReadKeys, ReadSwitches}
-use Rattle.segment.specs.declared.chip.Stepping.{Stepping}
-use Rattle.segment.specs.declared.chip.Stepping.the-variants.{Increment, Fixed}
-use Rattle.segment.specs.declared.chip.Display.{Display}
-use Rattle.segment.specs.declared.chip.Display.the-variants.{Off, On}
-use Rattle.segment.specs.declared.chip.Sizes.{Sizes}
+use Rattle.segment.specs.declared.Pointer.{Pointer}
+use Rattle.segment.specs.declared.Pointer.the-variants.{At, Invalid}
+use Rattle.segment.specs.declared.Data.the-variants.{WriteDisplay, WriteLed, ReadKeys, ReadSwitches}
+use Rattle.segment.specs.declared.Stepping.{Stepping}
+use Rattle.segment.specs.declared.Stepping.the-variants.{Increment, Fixed}
+use Rattle.segment.specs.declared.Display.{Display}
+use Rattle.segment.specs.declared.Display.the-variants.{Off, On}
+use Rattle.segment.specs.declared.Sizes.{Sizes}
 
 -- 00 mode: the low three bits, or four; 8 to 15 all mean 8 on PT6315, whose highest mode that is (001, 002).
 abbrev pub modeOf : Sizes → ℕ → ℕ

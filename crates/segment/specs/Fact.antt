@@ -3,7 +3,7 @@ use Prim.Native.Nat.{ℕ, suc}
 use native.Mathlib.Decide.{ℕ-discrete}
 use lib.Dec.{ltb}
 use Rattle.rules.specs.Choice.{whether}
-use Rattle.segment.specs.declared.chip.Sizes.{Sizes}
+use Rattle.segment.specs.declared.Sizes.{Sizes}
 
 -- A bit of a cell is named by the cell's address and the bit's number, bit 0 being the low one, a bit of the LED by its number, a key byte by its
 -- number in reading order.

@@ -11,12 +11,12 @@ use Rattle.rules.specs.Choice.{whether}
 use Rattle.rules.specs.Rule.{value, copy, free, Told, told, outcome, becomes}
 use Rattle.rules.specs.Change.{keep, change}
 use Rattle.rules.specs.Laws.{becomes-set, became, told-byte, told-low}
-use Rattle.segment.specs.declared.chip.Sizes.{Sizes}
+use Rattle.segment.specs.declared.Sizes.{Sizes}
 use Rattle.segment.specs.Move.{Forms, sets, stores, lights, tested, keysLatched}
-use Rattle.segment.specs.declared.chip.Segment.{Segment}
+use Rattle.segment.specs.declared.Segment.{Segment}
 use Rattle.segment.specs.View.{view}
-use Rattle.segment.specs.declared.chip.Family.{Family}
-use Rattle.segment.specs.declared.chip.Family.the-variants.{Pt6312, Pt6315}
+use Rattle.segment.specs.declared.Family.{Family}
+use Rattle.segment.specs.declared.Family.the-variants.{Pt6312, Pt6315}
 use Rattle.segment.specs.Family.{sizes}
 use Rattle.segment.specs.Fact.{Fact, same?, bySort, setting, memory, cell, address, dataMode, stepping, mode, dimming, display, led, key, switches, readCount, position}
 

@@ -8,14 +8,14 @@ use Rattle.terms.specs.declared.Event.{Event}
 use Rattle.terms.specs.declared.Event.the-variants.{Power, Falls, ByteIn, Rises, Gap, Unfinished, Keys, Switches, ByteOut}
 use Rattle.segment.specs.declared.command.Command.{Command}
 use Rattle.segment.specs.declared.command.Command.the-variants.{Mode, Test, Setting, AnySetting, Control, Start}
-use Rattle.segment.specs.declared.chip.Pointer.{Pointer}
-use Rattle.segment.specs.declared.chip.Pointer.the-variants.{At}
-use Rattle.segment.specs.declared.chip.Data.the-variants.{WriteDisplay}
-use Rattle.segment.specs.declared.chip.Stepping.the-variants.{Increment}
-use Rattle.segment.specs.declared.chip.Display.the-variants.{Off}
-use Rattle.segment.specs.declared.chip.Position.{Position}
-use Rattle.segment.specs.declared.chip.Position.the-variants.{Idle, First, Open, Ignoring}
-use Rattle.segment.specs.declared.chip.Sizes.{Sizes}
+use Rattle.segment.specs.declared.Pointer.{Pointer}
+use Rattle.segment.specs.declared.Pointer.the-variants.{At}
+use Rattle.segment.specs.declared.Data.the-variants.{WriteDisplay}
+use Rattle.segment.specs.declared.Stepping.the-variants.{Increment}
+use Rattle.segment.specs.declared.Display.the-variants.{Off}
+use Rattle.segment.specs.declared.Position.{Position}
+use Rattle.segment.specs.declared.Position.the-variants.{Idle, First, Open, Ignoring}
+use Rattle.segment.specs.declared.Sizes.{Sizes}
 use Rattle.segment.specs.Fact.{Fact, cell, address, dataMode, stepping, mode, dimming, display, led, key, switches, readCount, position, same?, cellBits, ledBits, sort, bySort}
 use Rattle.segment.specs.Value.{pointer, data-mode, steps, shows, at-position}
 use Rattle.segment.specs.Command.{commandOf}

@@ -13,26 +13,26 @@ use Rattle.rules.specs.Range.{Good, moves-good, FormIn, Ranged, InRange, keep-f
 use Rattle.terms.specs.declared.Event.{Event}
 use Rattle.terms.specs.declared.Event.the-variants.{Power, Falls, ByteIn, Rises, Gap, Unfinished, Keys, Switches, ByteOut}
 use Rattle.terms.specs.Event.{Bytes}
-use Rattle.segment.specs.declared.chip.Family.{Family}
-use Rattle.segment.specs.declared.chip.Family.the-variants.{Pt6312, Pt6315}
-use Rattle.segment.specs.declared.chip.Sizes.{Sizes}
+use Rattle.segment.specs.declared.Family.{Family}
+use Rattle.segment.specs.declared.Family.the-variants.{Pt6312, Pt6315}
+use Rattle.segment.specs.declared.Sizes.{Sizes}
 use Rattle.segment.specs.declared.command.Command.{Command}
 use Rattle.segment.specs.declared.command.Command.the-variants.{Mode, Test, Setting, AnySetting, Control, Start}
-use Rattle.segment.specs.declared.chip.Pointer.{Pointer}
-use Rattle.segment.specs.declared.chip.Stepping.{Stepping}
-use Rattle.segment.specs.declared.chip.Stepping.the-variants.{Increment, Fixed}
-use Rattle.segment.specs.declared.chip.Display.{Display}
-use Rattle.segment.specs.declared.chip.Display.the-variants.{Off, On}
-use Rattle.segment.specs.declared.chip.Position.{Position}
-use Rattle.segment.specs.declared.chip.Position.the-variants.{Idle, First, Open, Ignoring}
+use Rattle.segment.specs.declared.Pointer.{Pointer}
+use Rattle.segment.specs.declared.Stepping.{Stepping}
+use Rattle.segment.specs.declared.Stepping.the-variants.{Increment, Fixed}
+use Rattle.segment.specs.declared.Display.{Display}
+use Rattle.segment.specs.declared.Display.the-variants.{Off, On}
+use Rattle.segment.specs.declared.Position.{Position}
+use Rattle.segment.specs.declared.Position.the-variants.{Idle, First, Open, Ignoring}
 use Rattle.segment.specs.Family.{sizes}
 use Rattle.segment.specs.Fact.{Fact, same?, lacking, range, cell, address, dataMode, stepping, mode, dimming, display, led, key, switches, readCount, position}
 use Rattle.segment.specs.Value.{pointer, data-mode, steps, shows, at-position}
 use Rattle.segment.specs.Command.{modeOf, settingOf, displayOf, pointerOf, commandOf}
 use Rattle.segment.specs.Move.{Forms, sets, stores, lights, then, toMode, commanded, after, stored, byteIn, counted, byteOut, keysLatched, switchesLatched, move}
 use Rattle.segment.specs.Laws.{every, led-tested}
-use Rattle.segment.specs.declared.chip.Segment.{Segment}
-use Rattle.segment.specs.declared.chip.Moved.{Moved}
+use Rattle.segment.specs.declared.Segment.{Segment}
+use Rattle.segment.specs.declared.Moved.{Moved}
 use Rattle.segment.specs.View.{view, covers, By}
 
 -- There is a cell.

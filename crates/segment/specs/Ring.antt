@@ -12,12 +12,12 @@ use Rattle.rules.specs.Rule.{Rule, gives, becomes, anything, run}
 use Rattle.rules.specs.Laws.{says-by-value}
 use Rattle.terms.specs.declared.Event.{Event}
 use Rattle.terms.specs.declared.Event.the-variants.{Power, Falls, ByteIn, Rises, Gap, Unfinished, Keys, Switches, ByteOut}
-use Rattle.segment.specs.declared.chip.Family.{Family}
-use Rattle.segment.specs.declared.chip.Family.the-variants.{Pt6312, Pt6315}
-use Rattle.segment.specs.declared.chip.Sizes.{Sizes}
-use Rattle.segment.specs.declared.chip.Pointer.the-variants.{At, Invalid}
-use Rattle.segment.specs.declared.chip.Data.the-variants.{WriteDisplay}
-use Rattle.segment.specs.declared.chip.Position.the-variants.{First, Open}
+use Rattle.segment.specs.declared.Family.{Family}
+use Rattle.segment.specs.declared.Family.the-variants.{Pt6312, Pt6315}
+use Rattle.segment.specs.declared.Sizes.{Sizes}
+use Rattle.segment.specs.declared.Pointer.the-variants.{At, Invalid}
+use Rattle.segment.specs.declared.Data.the-variants.{WriteDisplay}
+use Rattle.segment.specs.declared.Position.the-variants.{First, Open}
 use Rattle.segment.specs.declared.command.Command.{Command}
 use Rattle.segment.specs.declared.command.Command.the-variants.{Mode, Test, Setting, AnySetting, Control, Start}
 use Rattle.segment.specs.Fact.{Fact, address, dataMode, stepping, mode, position}

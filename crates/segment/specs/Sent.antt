@@ -5,10 +5,10 @@ use Rattle.rules.specs.Choice.{whether, of4}
 use Rattle.rules.specs.Rule.{Form, value, copy, Rule, gives, look}
 use mathlib.Core.Path.{_≡_}
 use Rattle.rules.specs.Rule.{becomes, run}
-use Rattle.segment.specs.declared.chip.Segment.{Segment}
-use Rattle.segment.specs.declared.chip.Sent.{Sent}
-use Rattle.segment.specs.declared.chip.Sent.the-variants.{Byte, NotDriven}
-use Rattle.segment.specs.declared.chip.Sizes.{Sizes}
+use Rattle.segment.specs.declared.Segment.{Segment}
+use Rattle.segment.specs.declared.Sent.{Sent}
+use Rattle.segment.specs.declared.Sent.the-variants.{Byte, NotDriven}
+use Rattle.segment.specs.declared.Sizes.{Sizes}
 use Rattle.segment.specs.View.{view}
 use Rattle.segment.specs.Fact.{Fact, dataMode, key, switches, readCount, position}
 

@@ -11,10 +11,10 @@ use Rattle.rules.specs.Change.{keep, setBits}
 use Rattle.rules.specs.Touch.{Leaves, Settles, settles, isFree, isAnything, change-leaves, AllSettle, keep-settles, change-settles, bits-settle}
 use Rattle.terms.specs.declared.Event.{Event}
 use Rattle.terms.specs.declared.Event.the-variants.{Power, Falls, ByteIn, Rises, Gap, Unfinished, Keys, Switches, ByteOut}
-use Rattle.segment.specs.declared.chip.Sizes.{Sizes}
-use Rattle.segment.specs.declared.chip.Position.{Position}
-use Rattle.segment.specs.declared.chip.Position.the-variants.{Ignoring, Open}
-use Rattle.segment.specs.declared.chip.Display.the-variants.{Off}
+use Rattle.segment.specs.declared.Sizes.{Sizes}
+use Rattle.segment.specs.declared.Position.{Position}
+use Rattle.segment.specs.declared.Position.the-variants.{Ignoring, Open}
+use Rattle.segment.specs.declared.Display.the-variants.{Off}
 use Rattle.segment.specs.declared.command.Command.{Command}
 use Rattle.segment.specs.declared.command.Command.the-variants.{Mode, Test, Setting, AnySetting, Control, Start}
 use Rattle.segment.specs.Fact.{Fact, same?, cell, address, dataMode, stepping, mode, dimming, display, led, key, switches, readCount, position}

@@ -9,21 +9,21 @@ use native.Mathlib.Omega.{arith}
 use Prim.Native.Nat.{_<_}
 use Rattle.rules.specs.Rule.{Rule, becomes}
 use Rattle.rules.specs.Unique.{by-number, same-list, same-value, same-any}
-use Rattle.segment.specs.declared.chip.Sent.{Sent}
-use Rattle.segment.specs.declared.chip.Sent.the-variants.{Byte, NotDriven}
-use Rattle.segment.specs.declared.chip.Segment.{Segment}
-use Rattle.segment.specs.declared.chip.Anything.{Anything}
-use Rattle.segment.specs.declared.chip.Moved.{Moved}
-use Rattle.segment.specs.declared.chip.Pointer.{Pointer}
-use Rattle.segment.specs.declared.chip.Pointer.the-variants.{At, Invalid}
-use Rattle.segment.specs.declared.chip.Data.{Data}
-use Rattle.segment.specs.declared.chip.Data.the-variants.{WriteDisplay, WriteLed, ReadKeys, ReadSwitches}
-use Rattle.segment.specs.declared.chip.Stepping.{Stepping}
-use Rattle.segment.specs.declared.chip.Stepping.the-variants.{Increment, Fixed}
-use Rattle.segment.specs.declared.chip.Display.{Display}
-use Rattle.segment.specs.declared.chip.Display.the-variants.{Off, On}
-use Rattle.segment.specs.declared.chip.Position.{Position}
-use Rattle.segment.specs.declared.chip.Position.the-variants.{Idle, First, Open, Ignoring}
+use Rattle.segment.specs.declared.Sent.{Sent}
+use Rattle.segment.specs.declared.Sent.the-variants.{Byte, NotDriven}
+use Rattle.segment.specs.declared.Segment.{Segment}
+use Rattle.segment.specs.declared.Anything.{Anything}
+use Rattle.segment.specs.declared.Moved.{Moved}
+use Rattle.segment.specs.declared.Pointer.{Pointer}
+use Rattle.segment.specs.declared.Pointer.the-variants.{At, Invalid}
+use Rattle.segment.specs.declared.Data.{Data}
+use Rattle.segment.specs.declared.Data.the-variants.{WriteDisplay, WriteLed, ReadKeys, ReadSwitches}
+use Rattle.segment.specs.declared.Stepping.{Stepping}
+use Rattle.segment.specs.declared.Stepping.the-variants.{Increment, Fixed}
+use Rattle.segment.specs.declared.Display.{Display}
+use Rattle.segment.specs.declared.Display.the-variants.{Off, On}
+use Rattle.segment.specs.declared.Position.{Position}
+use Rattle.segment.specs.declared.Position.the-variants.{Idle, First, Open, Ignoring}
 use Rattle.segment.specs.Fact.{Fact, cell, address, dataMode, stepping, mode, dimming, display, led, key, switches, readCount, position}
 use Rattle.segment.specs.Value.{pointer, data-mode, steps, shows, at-position}
 use Rattle.segment.specs.View.{view, covers, By}

@@ -1,15 +1,15 @@
 -- The number that stands for each value that has a name.
 use Prim.Native.Nat.{ℕ, suc}
-use Rattle.segment.specs.declared.chip.Pointer.{Pointer}
-use Rattle.segment.specs.declared.chip.Pointer.the-variants.{At, Invalid}
-use Rattle.segment.specs.declared.chip.Data.{Data}
-use Rattle.segment.specs.declared.chip.Data.the-variants.{WriteDisplay, WriteLed, ReadKeys, ReadSwitches}
-use Rattle.segment.specs.declared.chip.Stepping.{Stepping}
-use Rattle.segment.specs.declared.chip.Stepping.the-variants.{Increment, Fixed}
-use Rattle.segment.specs.declared.chip.Display.{Display}
-use Rattle.segment.specs.declared.chip.Display.the-variants.{Off, On}
-use Rattle.segment.specs.declared.chip.Position.{Position}
-use Rattle.segment.specs.declared.chip.Position.the-variants.{Idle, First, Open, Ignoring}
+use Rattle.segment.specs.declared.Pointer.{Pointer}
+use Rattle.segment.specs.declared.Pointer.the-variants.{At, Invalid}
+use Rattle.segment.specs.declared.Data.{Data}
+use Rattle.segment.specs.declared.Data.the-variants.{WriteDisplay, WriteLed, ReadKeys, ReadSwitches}
+use Rattle.segment.specs.declared.Stepping.{Stepping}
+use Rattle.segment.specs.declared.Stepping.the-variants.{Increment, Fixed}
+use Rattle.segment.specs.declared.Display.{Display}
+use Rattle.segment.specs.declared.Display.the-variants.{Off, On}
+use Rattle.segment.specs.declared.Position.{Position}
+use Rattle.segment.specs.declared.Position.the-variants.{Idle, First, Open, Ignoring}
 
 -- An address: 0 means invalid, and a cell's number plus one means that cell.
 abbrev pub pointer : Pointer → ℕ

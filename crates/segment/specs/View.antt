@@ -2,9 +2,9 @@
 use Prim.Native.Nat.{ℕ}
 use mathlib.Core.Bool.{Bool}
 use lib.ListN.{getD}
-use Rattle.segment.specs.declared.chip.Segment.{Segment}
-use Rattle.segment.specs.declared.chip.Anything.{Anything}
-use Rattle.segment.specs.declared.chip.Moved.{Moved}
+use Rattle.segment.specs.declared.Segment.{Segment}
+use Rattle.segment.specs.declared.Anything.{Anything}
+use Rattle.segment.specs.declared.Moved.{Moved}
 use Rattle.rules.specs.Rule.{Rule, Moves}
 use Rattle.rules.specs.Digit.{lamp, narrow}
 use Rattle.segment.specs.Fact.{Fact, ledBits, cell, address, dataMode, stepping, mode, dimming, display, led, key, switches, readCount, position}

@@ -1,8 +1,8 @@
 // What a first byte can say.
-use crate::chip::Data;
-use crate::chip::Display;
-use crate::chip::Pointer;
-use crate::chip::Stepping;
+use crate::Data;
+use crate::Display;
+use crate::Pointer;
+use crate::Stepping;
 
 pub enum Command {
     // The mode code.

@@ -1,6 +1,6 @@
 // Where the address steps to.
-use crate::chip::Family;
-use crate::chip::Pointer;
+use crate::Family;
+use crate::Pointer;
 use terms::Address;
 ghost use mathlib.Core.Path.{_≡_};
 ghost use Prim.Native.Nat.{_<_};

@@ -17,7 +17,7 @@ use Rattle.lamps.specs.Lamp.{wide8, wide4}
 use Rattle.recording.specs.Record.{front}
 use Rattle.recording.specs.Steps.{rest}
 use Rattle.recording.specs.Walk.{walked}
-use Rattle.recording.specs.declared.read.Read.the-variants.{Is}
+use Rattle.recording.specs.declared.Read.the-variants.{Is}
 use Rattle.one_record.specs.Glance.{InByte}
 use Rattle.lamps.specs.View.{shown}
 use Rattle.changes.specs.Change.{among, Changes, Met, metRun, sharedBy}
@@ -27,18 +27,18 @@ use Rattle.walks.specs.Reads.{falls-there, byte-there, rises-there, gap-there}
 use Rattle.walks.specs.Run.{Run, byteOf, kept-run}
 use Rattle.stored_runs.specs.Putting.{PutsRun}
 use Rattle.byte_runs.specs.Sharing.{Shares}
-use Rattle.segment.specs.declared.chip.Sizes.{Sizes}
-use Rattle.segment.specs.declared.chip.Family.{Family}
+use Rattle.segment.specs.declared.Sizes.{Sizes}
+use Rattle.segment.specs.declared.Family.{Family}
 use Rattle.segment.specs.declared.command.Command.{Command}
 use Rattle.segment.specs.Command.{commandOf}
 use Rattle.segment.specs.Fact.{Fact, same?, range, cell, address, dataMode, stepping, mode, dimming, display, led, key, switches, readCount, position}
 use Rattle.segment.specs.Family.{sizes}
 use Rattle.segment.specs.Laws.{every}
 use Rattle.segment.specs.Move.{commanded, byteIn, move}
-use Rattle.segment_knowledge.specs.declared.control.Control.{Control}
-use Rattle.segment_knowledge.specs.declared.knowledge.Knowledge.{Knowledge}
+use Rattle.segment_knowledge.specs.declared.Control.{Control}
+use Rattle.segment_knowledge.specs.declared.Knowledge.{Knowledge}
 use Rattle.segment_knowledge.specs.View.{held, cview, kview, Knows}
-use Rattle.segment_steps.specs.declared.steps.Step.{Step}
+use Rattle.segment_steps.specs.declared.Step.{Step}
 use Rattle.segment_steps.specs.Step.{Steps, Keeps, Forgets, keptOf, forgottenOf}
 use Rattle.segment_steps.specs.StepLaws.{as-steps, kept-steps, forgotten-steps}
 use Rattle.segment_steps.specs.StepWays.{step-known}

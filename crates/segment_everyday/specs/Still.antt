@@ -8,11 +8,11 @@ use lib.ListN.{length, getD}
 use Rattle.terms.specs.declared.Event.the-variants.{ByteIn}
 use Rattle.knowing.specs.Know.{know}
 use Rattle.walks.specs.Run.{Run, byteOf, run-none, run-more}
-use Rattle.segment.specs.declared.chip.Family.{Family}
+use Rattle.segment.specs.declared.Family.{Family}
 use Rattle.segment.specs.Family.{sizes}
 use Rattle.segment.specs.Fact.{Fact, same?, range}
 use Rattle.segment.specs.Move.{move}
-use Rattle.segment_knowledge.specs.declared.control.Control.{Control}
+use Rattle.segment_knowledge.specs.declared.Control.{Control}
 use Rattle.segment_knowledge.specs.View.{held, cview}
 
 -- The byte b changes nothing of what is known.

@@ -9,9 +9,9 @@ use Rattle.key_codes.specs.Codes.{same-row}
 use Rattle.lamps.specs.Lamp.{one-code}
 use Rattle.lamps.specs.Row.{one-row}
 use Rattle.segment.specs.Fact.{Fact, cell, address, dataMode, stepping, mode, dimming, display, led, key, switches, readCount, position}
-use Rattle.segment_knowledge.specs.declared.control.Pointing.{Pointing}
-use Rattle.segment_knowledge.specs.declared.control.Pointing.the-variants.{At, Invalid, Unknown}
-use Rattle.segment_knowledge.specs.declared.knowledge.Knowledge.{Knowledge}
+use Rattle.segment_knowledge.specs.declared.Pointing.{Pointing}
+use Rattle.segment_knowledge.specs.declared.Pointing.the-variants.{At, Invalid, Unknown}
+use Rattle.segment_knowledge.specs.declared.Knowledge.{Knowledge}
 use Rattle.segment_knowledge.specs.View.{points, kview}
 
 -- The rows are as long as the arrays of the type. This holds of every knowledge that code hands over.

@@ -5,16 +5,16 @@ use lib.ListN.{getD}
 use Rattle.rules.specs.Rule.{Rule}
 use Rattle.knowing.specs.Standing as Of
 use Rattle.knowing.specs.Ways as Ways
-use Rattle.segment.specs.declared.chip.Sizes.{Sizes}
+use Rattle.segment.specs.declared.Sizes.{Sizes}
 use Rattle.segment.specs.Fact.{Fact, same?, range, cellBits, ledBits, cell, address, dataMode, stepping, mode, dimming, display, led, key, switches, readCount, position}
 use Rattle.standing.specs.View.{stands}
 use Rattle.key_codes.specs.View.{coded}
 use Rattle.lamps.specs.View as Lamps
 use Rattle.lamps.specs.View.{shown}
-use Rattle.segment_knowledge.specs.declared.control.Pointing.{Pointing}
-use Rattle.segment_knowledge.specs.declared.control.Pointing.the-variants.{At, Invalid, Unknown as Anywhere}
-use Rattle.segment_knowledge.specs.declared.knowledge.Knowledge.{Knowledge}
-use Rattle.segment_knowledge.specs.declared.control.Control.{Control}
+use Rattle.segment_knowledge.specs.declared.Pointing.{Pointing}
+use Rattle.segment_knowledge.specs.declared.Pointing.the-variants.{At, Invalid, Unknown as Anywhere}
+use Rattle.segment_knowledge.specs.declared.Knowledge.{Knowledge}
+use Rattle.segment_knowledge.specs.declared.Control.{Control}
 
 abbrev pub points : Pointing → Of.Standing
 points (At a) = Of.known (suc (a .0))

@@ -15,21 +15,21 @@ use Rattle.knowing.specs.Join.{join-itself, join-late, join-not, join-nor}
 use Rattle.knowing.specs.Look.{know-same, idle-ways}
 use Rattle.knowing.specs.Steps.{step-all}
 use Rattle.standing.specs.View.{stands}
-use Rattle.standing.specs.declared.standing.Standing.{Standing}
-use Rattle.standing.specs.declared.standing.Standing.the-variants.{Known, Unknown}
+use Rattle.standing.specs.declared.Standing.{Standing}
+use Rattle.standing.specs.declared.Standing.the-variants.{Known, Unknown}
 use Rattle.lamps.specs.View.{shown, met}
 use Rattle.lamps.specs.Lamp.{none-shown}
-use Rattle.changes.specs.declared.change.Change.{Change}
-use Rattle.changes.specs.declared.change.Change.the-variants.{Meet, Forget}
+use Rattle.changes.specs.declared.Change.{Change}
+use Rattle.changes.specs.declared.Change.the-variants.{Meet, Forget}
 use Rattle.changes.specs.Change.{among, seen, Inside, loose}
 use Rattle.changes.specs.Laws.{loose-seen, loose-inside}
 use Rattle.terms.specs.declared.Address.{Address}
-use Rattle.segment.specs.declared.chip.Family.{Family}
-use Rattle.segment.specs.declared.chip.Data.{Data}
-use Rattle.segment.specs.declared.chip.Display.{Display}
-use Rattle.segment.specs.declared.chip.Display.the-variants.{Off}
-use Rattle.segment.specs.declared.chip.Pointer.{Pointer}
-use Rattle.segment.specs.declared.chip.Stepping.{Stepping}
+use Rattle.segment.specs.declared.Family.{Family}
+use Rattle.segment.specs.declared.Data.{Data}
+use Rattle.segment.specs.declared.Display.{Display}
+use Rattle.segment.specs.declared.Display.the-variants.{Off}
+use Rattle.segment.specs.declared.Pointer.{Pointer}
+use Rattle.segment.specs.declared.Stepping.{Stepping}
 use Rattle.segment.specs.declared.command.Command.{Command}
 use Rattle.segment.specs.declared.command.Command.the-variants.{Mode, Test, Setting, AnySetting, Control as Controls, Start}
 use Rattle.segment.specs.Command.{commandOf}
@@ -38,11 +38,11 @@ use Rattle.segment.specs.Fact.{Fact, same?, range, cell, address, dataMode, ste
 use Rattle.segment.specs.Laws.{every, led-tested}
 use Rattle.segment.specs.Value.{pointer, data-mode, steps, shows}
 use Rattle.segment.specs.Move.{written, toMode, commanded, byteIn}
-use Rattle.segment_knowledge.specs.declared.control.Control.{Control}
-use Rattle.segment_knowledge.specs.declared.control.Pointing.{Pointing}
-use Rattle.segment_knowledge.specs.declared.control.Pointing.the-variants.{Unknown as Anywhere}
+use Rattle.segment_knowledge.specs.declared.Control.{Control}
+use Rattle.segment_knowledge.specs.declared.Pointing.{Pointing}
+use Rattle.segment_knowledge.specs.declared.Pointing.the-variants.{Unknown as Anywhere}
 use Rattle.segment_knowledge.specs.View.{points, held, cview}
-use Rattle.segment_steps.specs.declared.steps.Step.{Step}
+use Rattle.segment_steps.specs.declared.Step.{Step}
 use Rattle.segment_steps.specs.Step.{sview, StaysInside, Steps}
 use Rattle.segment_known.specs.declared.bytes.Written.{Written}
 use Rattle.segment_known.specs.Ways.{displayIn, inMode, mode-set, mode-small, top-room}

@@ -13,14 +13,14 @@ use Rattle.rules.specs.Change.{keep, change}
 use Rattle.knowing.specs.Standing as Of
 use Rattle.knowing.specs.Know.{lifted, common, know}
 use Rattle.knowing.specs.Look.{look-unknown}
-use Rattle.segment.specs.declared.chip.Sizes.{Sizes}
-use Rattle.segment.specs.declared.chip.Family.{Family}
+use Rattle.segment.specs.declared.Sizes.{Sizes}
+use Rattle.segment.specs.declared.Family.{Family}
 use Rattle.segment.specs.Family.{sizes}
 use Rattle.segment.specs.Fact.{Fact, same?, range, cell, address, dataMode, stepping, mode, dimming, display, led, key, switches, readCount, position}
 use Rattle.segment.specs.Laws.{every, room, keys-apart}
 use Rattle.segment.specs.Move.{sets, stored, keysLatched}
-use Rattle.segment_knowledge.specs.declared.control.Control.{Control}
-use Rattle.changes.specs.declared.change.Change.the-variants.{Meet}
+use Rattle.segment_knowledge.specs.declared.Control.{Control}
+use Rattle.changes.specs.declared.Change.the-variants.{Meet}
 use Rattle.changes.specs.Change.{seen}
 use Rattle.changes.specs.Laws.{met-or-not}
 use Rattle.segment_steps.specs.Step.{sview, Steps}

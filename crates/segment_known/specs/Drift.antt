@@ -12,12 +12,12 @@ use Rattle.knowing.specs.Know.{learn, join, common, know}
 use Rattle.knowing.specs.Join.{join-swap, join-itself, common-two, common-apart}
 use Rattle.knowing.specs.Look.{look-known, look-unknown}
 use Rattle.lamps.specs.View.{told, met}
-use Rattle.changes.specs.declared.change.Change.the-variants.{Meet}
+use Rattle.changes.specs.declared.Change.the-variants.{Meet}
 use Rattle.changes.specs.Change.{among, seen, metRun}
 use Rattle.changes.specs.Laws.{met-told, loose-seen, bits-told}
-use Rattle.segment.specs.declared.chip.Sizes.{Sizes}
-use Rattle.segment.specs.declared.chip.Family.{Family}
-use Rattle.segment.specs.declared.chip.Position.the-variants.{Open}
+use Rattle.segment.specs.declared.Sizes.{Sizes}
+use Rattle.segment.specs.declared.Family.{Family}
+use Rattle.segment.specs.declared.Position.the-variants.{Open}
 use Rattle.segment.specs.Value.{at-position}
 use Rattle.segment.specs.Family.{sizes}
 use Rattle.segment.specs.Fact.{Fact, same?, range, cell, address, dataMode, stepping, mode, dimming, display, led, key, switches, readCount, position}

@@ -15,16 +15,16 @@ use Rattle.knowing.specs.Lost.{look-lost, know-leaves}
 use Rattle.rules.specs.Touch.{Leaves}
 use Rattle.standing.specs.View.{stands}
 use Rattle.lamps.specs.View.{shown, met, OfByte, Meets}
-use Rattle.changes.specs.declared.change.Change.{Change}
-use Rattle.changes.specs.declared.change.Change.the-variants.{Keep, Put, Meet}
+use Rattle.changes.specs.declared.Change.{Change}
+use Rattle.changes.specs.declared.Change.the-variants.{Keep, Put, Meet}
 use Rattle.changes.specs.Change.{among, seen, storedRun, metRun}
 use Rattle.terms.specs.declared.Address.{Address}
 use Rattle.terms.specs.declared.Event.the-variants.{ByteIn}
-use Rattle.segment.specs.declared.chip.Sizes.{Sizes}
-use Rattle.segment.specs.declared.chip.Family.{Family}
-use Rattle.segment.specs.declared.chip.Position.the-variants.{First, Open}
-use Rattle.segment.specs.declared.chip.Data.the-variants.{WriteDisplay, WriteLed}
-use Rattle.segment.specs.declared.chip.Stepping.the-variants.{Increment}
+use Rattle.segment.specs.declared.Sizes.{Sizes}
+use Rattle.segment.specs.declared.Family.{Family}
+use Rattle.segment.specs.declared.Position.the-variants.{First, Open}
+use Rattle.segment.specs.declared.Data.the-variants.{WriteDisplay, WriteLed}
+use Rattle.segment.specs.declared.Stepping.the-variants.{Increment}
 use Rattle.segment.specs.Value.{pointer, at-position, data-mode, steps}
 use Rattle.segment.specs.Family.{sizes}
 use Rattle.segment.specs.Fact.{Fact, same?, range, cell, address, dataMode, stepping, mode, dimming, display, led, key, switches, readCount, position}
@@ -32,9 +32,9 @@ use Rattle.segment.specs.Laws.{every}
 use Rattle.segment.specs.Range.{two}
 use Rattle.segment.specs.Touch.{byte-in-leaves-inputs}
 use Rattle.segment.specs.Move.{after, lights, stored, written, byteIn, move}
-use Rattle.segment_knowledge.specs.declared.control.Control.{Control}
-use Rattle.segment_knowledge.specs.declared.control.Pointing.{Pointing}
-use Rattle.segment_knowledge.specs.declared.control.Pointing.the-variants.{At, Unknown}
+use Rattle.segment_knowledge.specs.declared.Control.{Control}
+use Rattle.segment_knowledge.specs.declared.Pointing.{Pointing}
+use Rattle.segment_knowledge.specs.declared.Pointing.the-variants.{At, Unknown}
 use Rattle.segment_knowledge.specs.View.{points, cview}
 use Rattle.segment_known.specs.declared.everyday.Target.{Target}
 use Rattle.segment_known.specs.declared.everyday.Target.the-variants.{Cell, Anywhere, Perhaps, PerhapsCell, PerhapsLed, Nowhere, Led, Elsewhere}

@@ -11,14 +11,14 @@ use Rattle.knowing.specs.Know.{learn, join, common, know}
 use Rattle.knowing.specs.Join.{join-both, join-known, common-all, common-each, same-standing, common-same, common-apart}
 use Rattle.knowing.specs.Look.{look-known, look-unknown}
 use Rattle.standing.specs.View.{stands}
-use Rattle.standing.specs.declared.standing.Standing.{Standing as Single}
-use Rattle.segment.specs.declared.chip.Sizes.{Sizes}
-use Rattle.segment.specs.declared.chip.Family.{Family}
+use Rattle.standing.specs.declared.Standing.{Standing as Single}
+use Rattle.segment.specs.declared.Sizes.{Sizes}
+use Rattle.segment.specs.declared.Family.{Family}
 use Rattle.segment.specs.Family.{sizes}
 use Rattle.segment.specs.Fact.{Fact, same?, range, cell, address, dataMode, stepping, mode, dimming, display, led, key, switches, readCount, position}
 use Rattle.segment.specs.Laws.{every}
 use Rattle.segment.specs.Move.{counted, readOut, byteOut}
-use Rattle.segment_knowledge.specs.declared.control.Control.{Control}
+use Rattle.segment_knowledge.specs.declared.Control.{Control}
 use Rattle.segment_knowledge.specs.View.{cview}
 use Rattle.segment_steps.specs.Step.{Keeps}
 use Rattle.segment_known.specs.Writes.{several-modes}

@@ -13,7 +13,7 @@ use Rattle.knowing.specs.Know.{lifted, learn, join, common, know}
 use Rattle.knowing.specs.Join.{not-known, known-one, same-standing, join-swap, common-each, common-same, common-two, common-apart}
 use Rattle.knowing.specs.Look.{look-known, look-unknown}
 use Rattle.knowing.specs.Changed.{set-other, learn-other}
-use Rattle.segment.specs.declared.chip.Sizes.{Sizes}
+use Rattle.segment.specs.declared.Sizes.{Sizes}
 use Rattle.segment.specs.Value.{pointer}
 use Rattle.segment.specs.Fact.{Fact, same?, range, cell, address, dataMode, stepping, mode, dimming, display, led, key, switches, readCount, position}
 use Rattle.segment.specs.Laws.{cells-apart}

@@ -14,24 +14,24 @@ use Rattle.knowing.specs.Join.{join-itself, common-two}
 use Rattle.knowing.specs.Look.{look-unknown}
 use Rattle.knowing.specs.Ways as Ways
 use Rattle.knowing.specs.Ways.{Way, Becomes, Joins, known-way}
-use Rattle.segment.specs.declared.chip.Sizes.{Sizes}
-use Rattle.segment.specs.declared.chip.Position.the-variants.{Ignoring}
-use Rattle.segment.specs.declared.chip.Display.the-variants.{Off}
+use Rattle.segment.specs.declared.Sizes.{Sizes}
+use Rattle.segment.specs.declared.Position.the-variants.{Ignoring}
+use Rattle.segment.specs.declared.Display.the-variants.{Off}
 use Rattle.segment.specs.declared.command.Command.{Command}
 use Rattle.segment.specs.declared.command.Command.the-variants.{Mode, Test, Setting, AnySetting, Control, Start}
 use Rattle.segment.specs.Command.{commandOf, modeOf, settingOf, steppingOf, displayOf, pointerOf}
-use Rattle.segment.specs.declared.chip.Data.the-variants.{WriteDisplay, WriteLed, ReadKeys, ReadSwitches}
+use Rattle.segment.specs.declared.Data.the-variants.{WriteDisplay, WriteLed, ReadKeys, ReadSwitches}
 use Rattle.segment.specs.Value.{shows}
 use Rattle.segment.specs.Family.{sizes}
-use Rattle.segment.specs.declared.chip.Family.{Family}
-use Rattle.segment.specs.declared.chip.Family.the-variants.{Pt6312, Pt6315}
+use Rattle.segment.specs.declared.Family.{Family}
+use Rattle.segment.specs.declared.Family.the-variants.{Pt6312, Pt6315}
 use Rattle.segment.specs.Fact.{Fact, same?, range, cell, address, dataMode, stepping, mode, dimming, display, led, key, switches, readCount, position}
 use Rattle.segment.specs.Laws.{every}
 use Rattle.segment.specs.Move.{sets, then, nothing, toMode}
 use Rattle.standing.specs.View.{stands}
-use Rattle.standing.specs.declared.standing.Standing.{Standing}
-use Rattle.standing.specs.declared.standing.Standing.the-variants.{Known}
-use Rattle.segment_knowledge.specs.declared.control.Control.{Control as Beside}
+use Rattle.standing.specs.declared.Standing.{Standing}
+use Rattle.standing.specs.declared.Standing.the-variants.{Known}
+use Rattle.segment_knowledge.specs.declared.Control.{Control as Beside}
 use Rattle.segment_knowledge.specs.View.{cview}
 use Rattle.segment_steps.specs.Step.{Keeps}
 

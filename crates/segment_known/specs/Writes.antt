@@ -17,29 +17,29 @@ use Rattle.knowing.specs.Know.{lifted, learn, join, common, know}
 use Rattle.knowing.specs.Join.{join-swap, join-itself, join-other, common-same, common-two, common-apart}
 use Rattle.knowing.specs.Look.{look-unknown, know-same}
 use Rattle.standing.specs.View.{stands}
-use Rattle.standing.specs.declared.standing.Standing.{Standing}
-use Rattle.standing.specs.declared.standing.Standing.the-variants.{Known}
+use Rattle.standing.specs.declared.Standing.{Standing}
+use Rattle.standing.specs.declared.Standing.the-variants.{Known}
 use Rattle.lamps.specs.View.{shown, told, met, OfByte, Puts, Meets}
 use Rattle.lamps.specs.Lamp.{wide4, byte-none-past, byte-met-code}
-use Rattle.changes.specs.declared.change.Change.{Change}
-use Rattle.changes.specs.declared.change.Change.the-variants.{Keep, Put, Meet}
+use Rattle.changes.specs.declared.Change.{Change}
+use Rattle.changes.specs.declared.Change.the-variants.{Keep, Put, Meet}
 use Rattle.changes.specs.Change.{seen, Inside, loose}
 use Rattle.changes.specs.Laws.{put-told, met-told, loose-seen, loose-inside, bits-told, code-told}
 use Rattle.terms.specs.declared.Address.{Address}
-use Rattle.segment.specs.declared.chip.Sizes.{Sizes}
-use Rattle.segment.specs.declared.chip.Family.{Family}
-use Rattle.segment.specs.declared.chip.Family.the-variants.{Pt6312, Pt6315}
+use Rattle.segment.specs.declared.Sizes.{Sizes}
+use Rattle.segment.specs.declared.Family.{Family}
+use Rattle.segment.specs.declared.Family.the-variants.{Pt6312, Pt6315}
 use Rattle.segment.specs.Value.{pointer}
 use Rattle.segment.specs.Family.{sizes}
 use Rattle.segment.specs.Fact.{Fact, same?, range, cell, address, dataMode, stepping, mode, dimming, display, led, key, switches, readCount, position}
 use Rattle.segment.specs.Laws.{every, room, cells-apart, leds-apart}
 use Rattle.segment.specs.Move.{nothing, lights, after, storedAt, stored, written}
-use Rattle.segment_knowledge.specs.declared.control.Control.{Control}
-use Rattle.segment_knowledge.specs.declared.control.Pointing.{Pointing}
+use Rattle.segment_knowledge.specs.declared.Control.{Control}
+use Rattle.segment_knowledge.specs.declared.Pointing.{Pointing}
 use Rattle.segment_knowledge.specs.View.{points, cview}
 use Rattle.segment_known.specs.declared.stored.Stored.{Stored}
 use Rattle.segment_known.specs.declared.bytes.Written.{Written}
-use Rattle.segment_steps.specs.declared.steps.Step.{Step}
+use Rattle.segment_steps.specs.declared.Step.{Step}
 use Rattle.segment_steps.specs.Step.{sview, Steps}
 use Rattle.segment_steps.specs.StepLaws.{as-steps, kept-steps}
 use Rattle.segment_steps.specs.StepWays.{step-known}

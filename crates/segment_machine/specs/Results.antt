@@ -7,9 +7,9 @@ use Rattle.rules.specs.Turn.{Result}
 use Rattle.rules.specs.Results.{HasAnswer, results-exactly}
 use Rattle.terms.specs.declared.Event.{Event}
 use Rattle.terms.specs.Event.{Bytes}
-use Rattle.segment.specs.declared.chip.Family.{Family}
-use Rattle.segment.specs.declared.chip.Segment.{Segment}
-use Rattle.segment.specs.declared.chip.Moved.{Moved}
+use Rattle.segment.specs.declared.Family.{Family}
+use Rattle.segment.specs.declared.Segment.{Segment}
+use Rattle.segment.specs.declared.Moved.{Moved}
 use Rattle.segment.specs.Family.{sizes}
 use Rattle.segment.specs.Fact.{Fact, range}
 use Rattle.segment.specs.Move.{move}

@@ -7,8 +7,8 @@ use lib.ListN.{length, length-append}
 use lib.Seq.{sets}
 use Rattle.terms.specs.declared.Event.{Event}
 use Rattle.terms.specs.Event.{recording, recording-append, strobe}
-use Rattle.segment.specs.declared.chip.Family.{Family}
-use Rattle.segment.specs.declared.chip.Family.the-variants.{Pt6312, Pt6315}
+use Rattle.segment.specs.declared.Family.{Family}
+use Rattle.segment.specs.declared.Family.the-variants.{Pt6312, Pt6315}
 use Rattle.segment.specs.Family.{sizes}
 use Rattle.painting.specs.Segment.{fiveStrobes}
 use Rattle.painting.specs.Answer.{segmentSize}

@@ -13,10 +13,10 @@ use Rattle.key_codes.specs.Codes.{RowSound, Small, small-within}
 use Rattle.lamps.specs.View.{held}
 use Rattle.lamps.specs.Lamp.{shown-small}
 use Rattle.lamps.specs.Row.{LampsSound}
-use Rattle.segment.specs.declared.chip.Sizes.{Sizes}
+use Rattle.segment.specs.declared.Sizes.{Sizes}
 use Rattle.segment.specs.Fact.{Fact, lacking, range, cell, address, dataMode, stepping, mode, dimming, display, led, key, switches, readCount, position}
 use Rattle.segment.specs.Laws.{every}
-use Rattle.segment_knowledge.specs.declared.knowledge.Knowledge.{Knowledge}
+use Rattle.segment_knowledge.specs.declared.Knowledge.{Knowledge}
 use Rattle.segment_knowledge.specs.View.{kview}
 
 abbrev In : Sizes → (Fact → Standing) → Fact → Type 0

@@ -18,7 +18,7 @@ use Rattle.knowing.specs.Holds.{isKnown, is-known}
 use Rattle.knowing.specs.Bytes.{holds-tests}
 use Rattle.lamps.specs.View.{shown, held, told, Puts}
 use Rattle.lamps.specs.Lamp.{wide8}
-use Rattle.segment.specs.declared.chip.Sizes.{Sizes}
+use Rattle.segment.specs.declared.Sizes.{Sizes}
 use Rattle.segment.specs.Laws.{every}
 use Rattle.segment.specs.Fact.{Fact, cell, address, dataMode, stepping, readCount, position}
 use Rattle.runs.specs.Runs.{wanted, lastEnd, runEnd}

@@ -16,9 +16,9 @@ use Rattle.knowing.specs.Know.{learn, join, common, know}
 use Rattle.knowing.specs.Join.{not-known, known-one, same-standing, join-both, join-swap, join-again, common-each}
 use Rattle.knowing.specs.Look.{look-unknown}
 use Rattle.knowing.specs.Ways.{Joins}
-use Rattle.segment.specs.declared.chip.Sizes.{Sizes}
-use Rattle.segment.specs.declared.chip.Family.{Family}
-use Rattle.segment.specs.declared.chip.Family.the-variants.{Pt6312, Pt6315}
+use Rattle.segment.specs.declared.Sizes.{Sizes}
+use Rattle.segment.specs.declared.Family.{Family}
+use Rattle.segment.specs.declared.Family.the-variants.{Pt6312, Pt6315}
 use Rattle.segment.specs.Family.{sizes}
 use Rattle.segment.specs.Fact.{Fact, same?, lacking, range, dataMode, key, switches, readCount}
 use Rattle.segment.specs.Sent.{notDriven, says, keySent, switchesSent}

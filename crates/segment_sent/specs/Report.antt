@@ -3,11 +3,11 @@ use Prim.Native.Nat.{ℕ}
 use Rattle.rules.specs.Rule.{Rule}
 use Rattle.knowing.specs.Standing.{Standing, unknown, Within, Sound}
 use Rattle.knowing.specs.Ways as Ways
-use Rattle.segment.specs.declared.chip.Sizes.{Sizes}
+use Rattle.segment.specs.declared.Sizes.{Sizes}
 use Rattle.segment.specs.Fact.{Fact, same?, range, address, dataMode, stepping, mode, dimming, display, led, key, switches, readCount, position}
 use Rattle.segment.specs.Laws.{every}
-use Rattle.segment_knowledge.specs.declared.control.Control.{Control}
-use Rattle.segment_knowledge.specs.declared.knowledge.Knowledge.{Knowledge}
+use Rattle.segment_knowledge.specs.declared.Control.{Control}
+use Rattle.segment_knowledge.specs.declared.Knowledge.{Knowledge}
 use Rattle.segment_knowledge.specs.View.{cview, kview}
 use Rattle.sendings.specs.declared.Sending.{Sending}
 use Rattle.sendings.specs.Report.{reports}

@@ -4,13 +4,13 @@ use Rattle.rules.specs.Rule.{Rule}
 use Rattle.knowing.specs.Standing.{Standing, unknown}
 use Rattle.knowing.specs.Steps as Of
 use Rattle.knowing.specs.Ways as Ways
-use Rattle.changes.specs.declared.change.Change.the-variants.{Keep, Forget}
+use Rattle.changes.specs.declared.Change.the-variants.{Keep, Forget}
 use Rattle.changes.specs.Change.{seen, Inside}
-use Rattle.segment.specs.declared.chip.Sizes.{Sizes}
+use Rattle.segment.specs.declared.Sizes.{Sizes}
 use Rattle.segment.specs.Fact.{Fact, same?, range, cellBits}
-use Rattle.segment_knowledge.specs.declared.control.Control.{Control}
+use Rattle.segment_knowledge.specs.declared.Control.{Control}
 use Rattle.segment_knowledge.specs.View.{cview}
-use Rattle.segment_steps.specs.declared.steps.Step.{Step}
+use Rattle.segment_steps.specs.declared.Step.{Step}
 
 -- What is known after a step, by what was known of the cells before it.
 abbrev pub sview : (ℕ → ℕ → Standing) → Step → Fact → Standing

@@ -2,11 +2,11 @@
 use mathlib.Core.Path.{_≡_, subst⁻¹}
 use Rattle.rules.specs.Rule.{Rule}
 use Rattle.knowing.specs.Steps as Of
-use Rattle.segment.specs.declared.chip.Sizes.{Sizes}
+use Rattle.segment.specs.declared.Sizes.{Sizes}
 use Rattle.segment.specs.Fact.{Fact, same?, range}
-use Rattle.segment_knowledge.specs.declared.control.Control.{Control}
+use Rattle.segment_knowledge.specs.declared.Control.{Control}
 use Rattle.segment_knowledge.specs.View.{cview}
-use Rattle.segment_steps.specs.declared.steps.Step.{Step}
+use Rattle.segment_steps.specs.declared.Step.{Step}
 use Rattle.segment_steps.specs.Step.{sview, StaysInside, Steps, Keeps, Forgets, keptOf, forgottenOf}
 
 pub kept-steps : {s : Sizes} {rule : Rule Fact Fact} {c d : Control} {r : Step} → r ≡ keptOf d → Keeps s rule c d → Steps s rule c r

@@ -4,11 +4,11 @@ use mathlib.Core.Path.{_≡_}
 use mathlib.Core.List.{List}
 use Rattle.terms.specs.declared.Part.{Part}
 use Rattle.recording.specs.Walk.{walked, events, endOf}
-use Rattle.segment.specs.declared.chip.Family.{Family}
+use Rattle.segment.specs.declared.Family.{Family}
 use Rattle.segment.specs.Family.{sizes}
 use Rattle.segment.specs.Fact.{same?, range}
 use Rattle.segment.specs.Move.{move}
-use Rattle.segment_knowledge.specs.declared.knowledge.Knowledge.{Knowledge}
+use Rattle.segment_knowledge.specs.declared.Knowledge.{Knowledge}
 use Rattle.segment_knowledge.specs.View.{kview}
 use Rattle.segment_walks.specs.declared.SegmentWalked.{SegmentWalked}
 use Rattle.walks.specs.Turn.{InTurn}

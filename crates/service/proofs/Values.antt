@@ -25,11 +25,11 @@ use denote.Laws.{Is}
 use denote.Steps.{only}
 use denote.Struct.Laws as LL
 use denote.Enum.Laws as EL
-use Rattle.feed.specs.declared.state.Feed.{Feed}
+use Rattle.feed.specs.declared.Feed.{Feed}
 use Rattle.answers.specs.declared.Answer.{Answer}
 use Rattle.packets.specs.declared.records.Taken.{Taken}
-use Rattle.feed.proofs.state.Feed as T
-use Rattle.feed.proofs.state.Feed.Laws as T′
+use Rattle.feed.proofs.Feed as T
+use Rattle.feed.proofs.Feed.Laws as T′
 use Rattle.answers.proofs.Answer as S
 use Rattle.answers.proofs.Answer.Laws as S′
 use Rattle.packets.proofs.records.Taken as P

@@ -2,8 +2,8 @@
 use mathlib.Core.Path.{_≡_, refl, sym, ap}
 use Rattle.knowing.specs.Standing as Of
 use Rattle.knowing.specs.Join.{not-known, known-one}
-use Rattle.standing.specs.declared.standing.Standing.{Standing}
-use Rattle.standing.specs.declared.standing.Standing.the-variants.{Known, Unknown}
+use Rattle.standing.specs.declared.Standing.{Standing}
+use Rattle.standing.specs.declared.Standing.the-variants.{Known, Unknown}
 
 abbrev pub stands : Standing → Of.Standing
 stands (Known v) = Of.known v

@@ -12,8 +12,8 @@ use Rattle.terms.specs.declared.PartRead.{PartRead}
 use Rattle.terms.specs.declared.PartRead.the-variants.{Is}
 use Rattle.terms.specs.Part.{partOf}
 use Rattle.recording.specs.Walk.{walked, endOf}
-use Rattle.recording.specs.declared.ending.Ending.{Ending}
-use Rattle.recording.specs.declared.ending.Ending.the-variants.{Done, Stops}
+use Rattle.recording.specs.declared.Ending.{Ending}
+use Rattle.recording.specs.declared.Ending.the-variants.{Done, Stops}
 use Rattle.answers.specs.declared.Answer.the-variants as A
 use Rattle.answers.specs.Answer.{number, refused-as}
 use Rattle.answers.specs.Points.{PointsIn, points-in}

@@ -7,7 +7,7 @@ use lib.ListN.{length}
 use Rattle.rules.specs.Where.{Where, good, bad}
 use Rattle.terms.specs.Part.{partOf}
 use Rattle.terms.specs.declared.PartRead.{PartRead}
-use Rattle.panel.specs.declared.knowledge.Panel.{Panel}
+use Rattle.panel.specs.declared.Panel.{Panel}
 use Rattle.answers.specs.Answer.{number, place}
 use Rattle.replay.specs.declared.replays.Replayed.{Replayed}
 use Rattle.replay.specs.FromNothing.{FromNothing}

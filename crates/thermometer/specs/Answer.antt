@@ -12,7 +12,7 @@ use Rattle.terms.specs.declared.PartRead.{PartRead}
 use Rattle.terms.specs.declared.PartRead.the-variants.{Is, Refused}
 use Rattle.character.specs.Fact.{Fact, range, dcram, lights, digits, textBits}
 use Rattle.character_knowledge.specs.View.{kview}
-use Rattle.panel.specs.declared.knowledge.Panel.{Panel}
+use Rattle.panel.specs.declared.Panel.{Panel}
 use Rattle.half_degrees.specs.Half.{InHalves}
 use Rattle.field.specs.Said.{Said, reading, noReading, dark, unknown, notAReading}
 use Rattle.field.specs.Field.{told}

@@ -8,9 +8,9 @@ use Rattle.standing.specs.View.{stands}
 use Rattle.lamps.specs.Whole.{whole-shown}
 use Rattle.terms.specs.declared.PartRead.{PartRead}
 use Rattle.character.specs.Fact.{range, dcram}
-use Rattle.character_knowledge.specs.declared.knowledge.Knowledge.{Knowledge}
+use Rattle.character_knowledge.specs.declared.Knowledge.{Knowledge}
 use Rattle.character_knowledge.specs.View.{kview}
-use Rattle.panel.specs.declared.knowledge.Panel.{Panel}
+use Rattle.panel.specs.declared.Panel.{Panel}
 use Rattle.field.specs.Field.{told}
 use Rattle.field_cells.specs.Cells.{byteAt}
 use Rattle.thermometer.specs.declared.temperatures.Answer.{Answer}

@@ -6,7 +6,7 @@ use lib.IntN.{ℤ}
 use Rattle.knowing.specs.Standing.{Standing}
 use Rattle.knowing.specs.Holds.{isKnown, holds}
 use Rattle.knowing.specs.Bytes.{HasByte}
-use Rattle.character.specs.declared.chip.Lights.the-variants.{Normal}
+use Rattle.character.specs.declared.Lights.the-variants.{Normal}
 use Rattle.character.specs.Value.{lit}
 use Rattle.character.specs.Fact.{Fact, dcram, lights, digits, textBits}
 use Rattle.field.specs.declared.spelling.Five.{Five}

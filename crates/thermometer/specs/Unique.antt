@@ -11,7 +11,7 @@ use Rattle.terms.specs.declared.Part.the-variants.{Pt6302, Pt6312, Pt6315}
 use Rattle.terms.specs.declared.PartRead.{PartRead}
 use Rattle.terms.specs.declared.PartRead.the-variants.{Is, Refused}
 use Rattle.character_knowledge.specs.View.{kview}
-use Rattle.panel.specs.declared.knowledge.Panel.{Panel}
+use Rattle.panel.specs.declared.Panel.{Panel}
 use Rattle.half_degrees.specs.Laws.{one-float}
 use Rattle.field.specs.Said.{Said, reading, noReading, dark, unknown, notAReading}
 use Rattle.thermometer.specs.declared.temperatures.Answer.{Answer}

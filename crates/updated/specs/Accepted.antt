@@ -7,7 +7,7 @@ use Rattle.knowing.specs.Standing.{Standing}
 use Rattle.terms.specs.declared.Event.{Event}
 use Rattle.terms.specs.declared.Part.{Part}
 use Rattle.terms.specs.Event.{strobe}
-use Rattle.segment.specs.declared.chip.Family.{Family}
+use Rattle.segment.specs.declared.Family.{Family}
 use Rattle.segment.specs.Family.{sizes}
 use Rattle.segment.specs.Fact.{Fact}
 use Rattle.runs.specs.Runs.{wanted, run, strobesOf}

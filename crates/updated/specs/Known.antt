@@ -13,9 +13,9 @@ use Rattle.knowing.specs.Fill.{fill, filled, agrees}
 use Rattle.knowing.specs.Turn.{inTurn}
 use Rattle.terms.specs.declared.Event.{Event}
 use Rattle.terms.specs.Event.{strobe}
-use Rattle.segment.specs.declared.chip.Family.{Family}
-use Rattle.segment.specs.declared.chip.Sizes.{Sizes}
-use Rattle.segment.specs.declared.chip.Position.the-variants.{Open}
+use Rattle.segment.specs.declared.Family.{Family}
+use Rattle.segment.specs.declared.Sizes.{Sizes}
+use Rattle.segment.specs.declared.Position.the-variants.{Open}
 use Rattle.segment.specs.Family.{sizes}
 use Rattle.segment.specs.Fact.{Fact, same?, range, address, dataMode, stepping}
 use Rattle.segment.specs.Move.{sets, then, setting, commanded, move}

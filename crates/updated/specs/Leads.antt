@@ -17,10 +17,10 @@ use Rattle.knowing.specs.Holds.{is-known}
 use Rattle.knowing.specs.Bytes.{holds-tests}
 use Rattle.terms.specs.declared.Event.{Event}
 use Rattle.terms.specs.Event.{strobe}
-use Rattle.segment.specs.declared.chip.Family.{Family}
-use Rattle.segment.specs.declared.chip.Sizes.{Sizes}
-use Rattle.segment.specs.declared.chip.Data.the-variants.{WriteDisplay}
-use Rattle.segment.specs.declared.chip.Stepping.the-variants.{Increment}
+use Rattle.segment.specs.declared.Family.{Family}
+use Rattle.segment.specs.declared.Sizes.{Sizes}
+use Rattle.segment.specs.declared.Data.the-variants.{WriteDisplay}
+use Rattle.segment.specs.declared.Stepping.the-variants.{Increment}
 use Rattle.segment.specs.declared.command.Command.the-variants.{Setting}
 use Rattle.segment.specs.Family.{sizes}
 use Rattle.segment.specs.Fact.{Fact, cell, address, dataMode, stepping, mode, dimming, display, led, key, switches, readCount, position}

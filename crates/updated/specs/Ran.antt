@@ -31,8 +31,8 @@ use Rattle.rules.specs.Turn.{putBits, bits-put, bits-other}
 use Rattle.knowing.specs.Standing.{Standing}
 use Rattle.terms.specs.declared.Event.{Event}
 use Rattle.terms.specs.declared.Event.the-variants.{Falls, ByteIn, Rises}
-use Rattle.segment.specs.declared.chip.Sizes.{Sizes}
-use Rattle.segment.specs.declared.chip.Pointer.the-variants.{At}
+use Rattle.segment.specs.declared.Sizes.{Sizes}
+use Rattle.segment.specs.declared.Pointer.the-variants.{At}
 use Rattle.segment.specs.declared.command.Command.{Command}
 use Rattle.segment.specs.declared.command.Command.the-variants.{Start}
 use Rattle.segment.specs.Fact.{Fact, same?, cell, address, dataMode, stepping, position}

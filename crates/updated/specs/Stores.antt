@@ -16,7 +16,7 @@ use Rattle.rules.specs.Digit.{digit}
 use Rattle.rules.specs.Touch.{bits-leave, bits-at}
 use Rattle.terms.specs.declared.Event.{Event}
 use Rattle.terms.specs.declared.Event.the-variants.{Power, Falls, ByteIn, Rises, Gap, Unfinished, Keys, Switches, ByteOut}
-use Rattle.segment.specs.declared.chip.Sizes.{Sizes}
+use Rattle.segment.specs.declared.Sizes.{Sizes}
 use Rattle.segment.specs.declared.command.Command.{Command}
 use Rattle.segment.specs.declared.command.Command.the-variants.{Mode, Test, Setting, AnySetting, Control, Start}
 use Rattle.segment.specs.Fact.{Fact, same?, cell, address, dataMode, stepping, mode, position, cellBits}

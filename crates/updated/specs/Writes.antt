@@ -9,10 +9,10 @@ use Rattle.rules.specs.Rule.{becomes, run}
 use Rattle.rules.specs.Turn.{Result, Leads, sure-result, sure-only}
 use Rattle.terms.specs.declared.Event.{Event}
 use Rattle.terms.specs.declared.Event.the-variants.{Power, Falls, ByteIn, Rises, Gap, Unfinished, Keys, Switches, ByteOut}
-use Rattle.segment.specs.declared.chip.Sizes.{Sizes}
-use Rattle.segment.specs.declared.chip.Pointer.the-variants.{At}
-use Rattle.segment.specs.declared.chip.Data.the-variants.{WriteDisplay}
-use Rattle.segment.specs.declared.chip.Position.the-variants.{Open}
+use Rattle.segment.specs.declared.Sizes.{Sizes}
+use Rattle.segment.specs.declared.Pointer.the-variants.{At}
+use Rattle.segment.specs.declared.Data.the-variants.{WriteDisplay}
+use Rattle.segment.specs.declared.Position.the-variants.{Open}
 use Rattle.segment.specs.Fact.{Fact, range, address, dataMode, position}
 use Rattle.segment.specs.Value.{pointer, data-mode, at-position}
 use Rattle.segment.specs.Move.{move}

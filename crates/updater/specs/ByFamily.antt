@@ -5,12 +5,12 @@ use mathlib.Core.Path.{_≡_, refl, sym, _∙_, subst}
 use mathlib.Core.Bool.{Bool}
 use mathlib.Core.List.{List}
 use Rattle.terms.specs.declared.Address.{Address}
-use Rattle.segment.specs.declared.chip.Family.{Family}
+use Rattle.segment.specs.declared.Family.{Family}
 use Rattle.segment.specs.Family.{sizes}
 use Rattle.segment.specs.Fact.{Fact}
-use Rattle.segment_knowledge.specs.declared.knowledge.Knowledge.{Knowledge}
+use Rattle.segment_knowledge.specs.declared.Knowledge.{Knowledge}
 use Rattle.segment_knowledge.specs.View.{kview}
-use Rattle.panel.specs.declared.knowledge.Panel.{Panel}
+use Rattle.panel.specs.declared.Panel.{Panel}
 use Rattle.runs.specs.Survey.{differ}
 use Rattle.updating.specs.declared.Updated.{Updated}
 use Rattle.updating.specs.declared.Refreshed.{Refreshed}

@@ -8,10 +8,10 @@ use Rattle.terms.specs.declared.Place.{Place}
 use Rattle.terms.specs.declared.Part.the-variants.{Pt6302, Pt6312, Pt6315}
 use Rattle.terms.specs.declared.PartRead.{PartRead}
 use Rattle.terms.specs.declared.PartRead.the-variants.{Is, Refused}
-use Rattle.segment.specs.declared.chip.Family.{Family}
-use Rattle.segment.specs.declared.chip.Family.the-variants as OfFamily
-use Rattle.segment_knowledge.specs.declared.knowledge.Knowledge.{Knowledge}
-use Rattle.panel.specs.declared.knowledge.Panel.{Panel}
+use Rattle.segment.specs.declared.Family.{Family}
+use Rattle.segment.specs.declared.Family.the-variants as OfFamily
+use Rattle.segment_knowledge.specs.declared.Knowledge.{Knowledge}
+use Rattle.panel.specs.declared.Panel.{Panel}
 use Rattle.panel.specs.Unique.{Shaped, same-panel}
 use Rattle.updating.specs.declared.Refreshed.{Refreshed}
 use Rattle.updating.specs.declared.Updated.{Updated}

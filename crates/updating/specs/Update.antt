@@ -10,9 +10,9 @@ use Rattle.knowing.specs.Standing.{Standing}
 use Rattle.knowing.specs.Holds.{isKnown, holds}
 use Rattle.terms.specs.declared.Event.{Event}
 use Rattle.terms.specs.Event.{strobe}
-use Rattle.segment.specs.declared.chip.Sizes.{Sizes}
-use Rattle.segment.specs.declared.chip.Data.the-variants.{WriteDisplay}
-use Rattle.segment.specs.declared.chip.Stepping.the-variants.{Increment}
+use Rattle.segment.specs.declared.Sizes.{Sizes}
+use Rattle.segment.specs.declared.Data.the-variants.{WriteDisplay}
+use Rattle.segment.specs.declared.Stepping.the-variants.{Increment}
 use Rattle.segment.specs.Fact.{Fact, cell, dataMode, stepping, cellBits}
 use Rattle.segment.specs.Value.{data-mode, steps}
 use Rattle.runs.specs.Runs as Runs

@@ -8,11 +8,11 @@ use lib.Dec.{eqb, ltb}
 use Rattle.rules.specs.Choice.{whether}
 use Rattle.rules.specs.Digit.{digit}
 use Rattle.knowing.specs.Standing.{Standing, known}
-use Rattle.segment.specs.declared.chip.Sizes.{Sizes}
-use Rattle.segment.specs.declared.chip.Pointer.the-variants.{At}
-use Rattle.segment.specs.declared.chip.Data.the-variants.{WriteDisplay}
-use Rattle.segment.specs.declared.chip.Stepping.the-variants.{Increment}
-use Rattle.segment.specs.declared.chip.Position.the-variants.{Idle}
+use Rattle.segment.specs.declared.Sizes.{Sizes}
+use Rattle.segment.specs.declared.Pointer.the-variants.{At}
+use Rattle.segment.specs.declared.Data.the-variants.{WriteDisplay}
+use Rattle.segment.specs.declared.Stepping.the-variants.{Increment}
+use Rattle.segment.specs.declared.Position.the-variants.{Idle}
 use Rattle.segment.specs.Fact.{Fact, cell, address, dataMode, stepping, mode, dimming, display, led, key, switches, readCount, position, cellBits}
 use Rattle.segment.specs.Value.{pointer, data-mode, steps, at-position}
 use Rattle.runs.specs.Runs as Runs

@@ -13,9 +13,9 @@ use Rattle.terms.specs.declared.Part.{Part}
 use Rattle.recording.specs.Record.{front}
 use Rattle.recording.specs.Steps.{rest, rest-next}
 use Rattle.recording.specs.Walk.{Walk, done, stops, next, events, endOf}
-use Rattle.recording.specs.declared.read.Read.the-variants.{Is}
-use Rattle.recording.specs.declared.read.Refusal.{Refusal}
-use Rattle.recording.specs.declared.ending.Ending.the-variants.{Done, Stops}
+use Rattle.recording.specs.declared.Read.the-variants.{Is}
+use Rattle.recording.specs.declared.Refusal.{Refusal}
+use Rattle.recording.specs.declared.Ending.the-variants.{Done, Stops}
 
 module _ {F : Type 0} (same? : Discrete F) (range : F → ℕ) (move : Event → Rule F F) where
   pub record Kept (whole : Walk) (first : F → Standing) (rest : Walk) (k : F → Standing) : Type 0 where

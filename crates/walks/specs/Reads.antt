@@ -7,7 +7,7 @@ use lib.ListN.{length, getD, drop}
 use lib.Seq.{getD-drop}
 use Rattle.terms.specs.declared.Event.the-variants.{Falls, ByteIn, Rises, Gap}
 use Rattle.terms.specs.declared.Part.{Part}
-use Rattle.recording.specs.declared.read.Read.the-variants.{Is}
+use Rattle.recording.specs.declared.Read.the-variants.{Is}
 use Rattle.recording.specs.Record.{front}
 use Rattle.recording.specs.Laws.{at-common}
 

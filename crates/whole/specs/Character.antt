@@ -16,8 +16,8 @@ use Rattle.terms.specs.declared.Event.{Event}
 use Rattle.terms.specs.declared.Event.the-variants.{Power, Falls, ByteIn, Rises, Gap, Unfinished, Keys, Switches, ByteOut}
 use Rattle.character.specs.declared.command.Command.{Command}
 use Rattle.character.specs.declared.command.Command.the-variants.{Dcram, Cgram, Adram, Port, Duty, Digits, Light, Nothing, Undefined}
-use Rattle.character.specs.declared.chip.Position.{Position}
-use Rattle.character.specs.declared.chip.Position.the-variants.{Idle, First, Dcram as inDcram, Cgram as inCgram, Adram as inAdram, Ignoring}
+use Rattle.character.specs.declared.Position.{Position}
+use Rattle.character.specs.declared.Position.the-variants.{Idle, First, Dcram as inDcram, Cgram as inCgram, Adram as inAdram, Ignoring}
 use Rattle.character.specs.Fact.{Fact, same?, range, dcram, cgram, adram, dcramAt, cgramAt, adramAt, column, port, duty, digits, lights, position, Sort, memory, setting, transfer, sort}
 use Rattle.character.specs.Value.{lit, at-position}
 use Rattle.character.specs.Command.{commandOf, Defined}

@@ -15,13 +15,13 @@ use Rattle.terms.specs.declared.Event.{Event}
 use Rattle.terms.specs.declared.Event.the-variants.{Power, Falls, ByteIn, Rises, Gap, Unfinished, Keys, Switches, ByteOut}
 use Rattle.terms.specs.declared.Part.{Part}
 use Rattle.terms.specs.declared.Part.the-variants.{Pt6302, Pt6312, Pt6315}
-use Rattle.segment.specs.declared.chip.Family.the-variants as OfFamily
-use Rattle.segment.specs.declared.chip.Position.the-variants as SegmentPosition
+use Rattle.segment.specs.declared.Family.the-variants as OfFamily
+use Rattle.segment.specs.declared.Position.the-variants as SegmentPosition
 use Rattle.segment.specs.Family.{sizes}
 use Rattle.segment.specs.Fact as Segment
 use Rattle.segment.specs.Value as SegmentValue
 use Rattle.segment.specs.Command as SegmentCommand
-use Rattle.character.specs.declared.chip.Position.the-variants as CharacterPosition
+use Rattle.character.specs.declared.Position.the-variants as CharacterPosition
 use Rattle.character.specs.Fact as Character
 use Rattle.character.specs.Value as CharacterValue
 use Rattle.character.specs.Command as CharacterCommand

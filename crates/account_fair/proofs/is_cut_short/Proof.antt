@@ -1,7 +1,7 @@
 -- `account_fair::is_cut_short` meets its contract: what is read at the front tells whether the bytes are cut short.
 -- Assumes nothing.
 use mathlib.Core.Path.{sym, ap, _∙_}
-use Rattle.recording.specs.declared.read.Read.the-variants.{Refused}
+use Rattle.recording.specs.declared.Read.the-variants.{Refused}
 use Rattle.account_fair.specs.Laws.{is-cut, is-told}
 use borrow.Author.Needs.{needs}
 use Rattle.account_fair.proofs.is_cut_short.Statement.{statement}

@@ -2,7 +2,7 @@
 -- Assumes nothing.
 use native.Mathlib.Omega.{arith}
 use mathlib.Core.Path.{sym, ap, _∙_, subst}
-use Rattle.recording.specs.declared.ending.Ending.{Ending}
+use Rattle.recording.specs.declared.Ending.{Ending}
 use Rattle.answers.specs.Ended.{Inside, endedAs}
 use borrow.Author.Needs.{needs}
 use Rattle.answers.proofs.ended.Statement.{statement}

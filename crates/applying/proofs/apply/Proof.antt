@@ -2,7 +2,7 @@
 use mathlib.Core.Path.{refl, subst, subst⁻¹}
 use lib.ListN.{length}
 use Rattle.changes.specs.Change.{Changes, Inside}
-use Rattle.changes.specs.declared.change.Change.{Change}
+use Rattle.changes.specs.declared.Change.{Change}
 use borrow.Author.Needs.{needs}
 use Rattle.applying.proofs.apply.Statement.{statement}
 use Rattle.applying.proofs.apply.Tie as tie

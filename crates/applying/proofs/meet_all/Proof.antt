@@ -5,7 +5,7 @@ use mathlib.Core.Path.{subst, subst⁻¹}
 use lib.ListN.{length}
 use Rattle.changes.specs.Change.{Changes}
 use Rattle.changes.specs.Laws.{met-byte}
-use Rattle.changes.specs.declared.change.Change.the-variants.{Meet}
+use Rattle.changes.specs.declared.Change.the-variants.{Meet}
 use borrow.Author.Needs.{needs}
 use Rattle.applying.proofs.meet_all.Statement.{statement}
 use Rattle.applying.proofs.meet_all.Tie as tie

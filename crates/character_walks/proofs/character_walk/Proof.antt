@@ -10,13 +10,13 @@ use Prim.Native.Nat.{_+_, _-_}
 use lib.ListN.{length}
 use Rattle.recording.specs.Steps.{rest, rest-end, rest-stops, stop-fits}
 use Rattle.recording.specs.Walk.{walked, done}
-use Rattle.recording.specs.declared.read.Read.the-variants.{Is}
+use Rattle.recording.specs.declared.Read.the-variants.{Is}
 use Rattle.terms.specs.declared.Event.the-variants.{Falls, ByteIn, Rises, Gap}
 use Rattle.lamps.specs.Lamp.{wide8, wide7, wide2}
 use Rattle.one_record.specs.Glance.{InByte}
 use Rattle.character.specs.Move.{move}
 use Rattle.character.specs.Fact.{same?, range}
-use Rattle.character_knowledge.specs.declared.knowledge.Knowledge.{Knowledge}
+use Rattle.character_knowledge.specs.declared.Knowledge.{Knowledge}
 use Rattle.character_knowledge.specs.View.{memory, kview, Knows}
 use Rattle.character_known.specs.Ram.{text, columns, pairs, Aims}
 use Rattle.character_known.specs.Everyday.{Deaf, hit, first-kept, first-forgot}

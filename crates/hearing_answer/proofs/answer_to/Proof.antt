@@ -2,7 +2,7 @@
 use mathlib.Core.Bool.{true≢false}
 use mathlib.Core.Path.{_≡_, refl, sym, ap, _∙_, subst⁻¹}
 use borrow.Author.Tests.{not-true, not-false}
-use Rattle.recording.specs.declared.read.Read.{Read}
+use Rattle.recording.specs.declared.Read.{Read}
 use Rattle.carrying.specs.Carried as Carried
 use Rattle.rules.specs.Where.{good, bad}
 use Rattle.hearing_answer.specs.declared.Answer.{Answer}

@@ -3,7 +3,7 @@
 use mathlib.Core.Path.{ap}
 use borrow.Author.Needs.{needs}
 use Rattle.terms.specs.declared.Place.{Place}
-use Rattle.recording.specs.declared.ending.Ending.the-variants.{Stops}
+use Rattle.recording.specs.declared.Ending.the-variants.{Stops}
 use Rattle.pointing.proofs.stops_at.Statement.{statement}
 use Rattle.pointing.proofs.stops_at.Tie as tie
 

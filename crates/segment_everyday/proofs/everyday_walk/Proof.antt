@@ -14,7 +14,7 @@ use Rattle.segment.specs.Move.{move}
 use Rattle.segment_knowledge.specs.View.{kview}
 use Rattle.walks.specs.Kept.{kept-start, kept-as, kept-done, kept-stops}
 use mathlib.Core.Path.{subst}
-use Rattle.segment_knowledge.specs.declared.knowledge.Knowledge.{Knowledge}
+use Rattle.segment_knowledge.specs.declared.Knowledge.{Knowledge}
 use Rattle.one_record.specs.declared.glance.Everyday.{Everyday}
 use Rattle.one_record.specs.Glance.{Shows}
 use mathlib.Core.Bool.{Bool, true, false, not, true≢false}
@@ -26,13 +26,13 @@ use Rattle.lamps.specs.Lamp.{wide8, wide4}
 use Rattle.changes.specs.Change.{Changes}
 use Rattle.stored_runs.specs.Putting.{PutsRun}
 use Rattle.segment.specs.Laws.{room}
-use Rattle.changes.specs.declared.change.Change.the-variants.{Meet}
-use Rattle.segment.specs.declared.chip.Sizes.{Sizes}
+use Rattle.changes.specs.declared.Change.the-variants.{Meet}
+use Rattle.segment.specs.declared.Sizes.{Sizes}
 use Rattle.segment.specs.Command.{commandOf}
 use Rattle.segment.specs.Move.{commanded}
-use Rattle.segment_knowledge.specs.declared.control.Control.{Control}
+use Rattle.segment_knowledge.specs.declared.Control.{Control}
 use Rattle.segment_knowledge.specs.View.{held}
-use Rattle.segment_steps.specs.declared.steps.Step.{Step}
+use Rattle.segment_steps.specs.declared.Step.{Step}
 use Rattle.segment_steps.specs.Step.{Steps, keptOf, forgottenOf}
 use Rattle.segment_known.specs.declared.everyday.Target.{Target}
 use Rattle.segment_known.specs.Everyday.{Hits, lights-in, drifts-lit, drifts-at, lost-deaf}

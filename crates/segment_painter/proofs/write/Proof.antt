@@ -7,7 +7,7 @@ use lib.ListN.{length, take}
 use lib.Seq.{sets, length-take-le}
 use Rattle.writing.specs.Sets.{front}
 use Rattle.terms.specs.Event.{recording}
-use Rattle.segment.specs.declared.chip.Sizes.{Sizes}
+use Rattle.segment.specs.declared.Sizes.{Sizes}
 use Rattle.segment.specs.Family.{sizes}
 use Rattle.segment.specs.Laws.{room}
 use Rattle.painting.specs.Segment.{fiveStrobes, control}

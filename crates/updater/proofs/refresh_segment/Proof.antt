@@ -7,7 +7,7 @@ use mathlib.Core.Path.{_≡_, refl, sym, ap, _∙_}
 use mathlib.Core.Bool.{true≢false}
 use borrow.Author.Tests.{not-true, not-false}
 use Rattle.rules.specs.Where.{good, bad}
-use Rattle.segment.specs.declared.chip.Sizes.{Sizes}
+use Rattle.segment.specs.declared.Sizes.{Sizes}
 use Rattle.segment.specs.Family.{sizes}
 use Rattle.segment.specs.Laws.{room, some-cells}
 use Rattle.segment_knowledge.specs.View.{held, kview}

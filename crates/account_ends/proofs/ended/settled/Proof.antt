@@ -9,14 +9,14 @@ use lib.ListN.{length, take, drop, length-drop}
 use lib.Seq.{drop-drop}
 use types.Run.{OneOf}
 use denote.Enum.Declared.{tagOf}
-use Rattle.recording.proofs.read.Refusal.{the-type}
+use Rattle.recording.proofs.Refusal.{the-type}
 use Rattle.terms.specs.declared.Place.{Place}
 use Rattle.recording.specs.Laws.{part-from}
 use Rattle.recording.specs.Cut.{Open}
-use Rattle.recording.specs.declared.ending.Ending.{Ending}
-use Rattle.recording.specs.declared.ending.Ending.the-variants.{Stops}
-use Rattle.recording.specs.declared.read.Refusal.{Refusal}
-use Rattle.recording.specs.declared.read.Refusal.the-variants.{Unlisted, Foreign, CutShort, Forbidden}
+use Rattle.recording.specs.declared.Ending.{Ending}
+use Rattle.recording.specs.declared.Ending.the-variants.{Stops}
+use Rattle.recording.specs.declared.Refusal.{Refusal}
+use Rattle.recording.specs.declared.Refusal.the-variants.{Unlisted, Foreign, CutShort, Forbidden}
 use Rattle.account_ends.specs.declared.ended.Ended.{Ended}
 use Rattle.account_ends.specs.Ended.{ByEnd, EndOf, halted}
 use Rattle.account_ends.specs.Laws.{goes-so, halts-so, stop-within, cut-within}

@@ -1,8 +1,8 @@
 -- `character_known::anywhere::met_columns` meets its contract: the four cases of a character and a column, each known or not.
 -- Assumes nothing.
 use mathlib.Core.Path.{sym, ap₂}
-use Rattle.standing.specs.declared.standing.Standing.{Standing}
-use Rattle.character_knowledge.specs.declared.control.Pointing.{Pointing}
+use Rattle.standing.specs.declared.Standing.{Standing}
+use Rattle.character_knowledge.specs.declared.Pointing.{Pointing}
 use Rattle.character_known.specs.Weakened.{metColumn}
 use borrow.Author.Needs.{needs}
 use Rattle.character_known.proofs.anywhere.met_columns.Statement.{statement}

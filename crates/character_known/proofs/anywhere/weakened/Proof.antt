@@ -12,8 +12,8 @@ use Rattle.lamps.specs.Lamp.{wide2}
 use Rattle.character.specs.declared.command.Command.{Command}
 use Rattle.character.specs.Command.{Defined}
 use Rattle.character.specs.Laws.{every}
-use Rattle.character_knowledge.specs.declared.control.Control.{Control}
-use Rattle.character_knowledge.specs.declared.control.Pointing.the-variants.{Unknown}
+use Rattle.character_knowledge.specs.declared.Control.{Control}
+use Rattle.character_knowledge.specs.declared.Pointing.the-variants.{Unknown}
 use Rattle.character_knowledge.specs.View.{points}
 use Rattle.character_known.specs.Weakened.{lasts, stays, same, same-place, port-met, as-said}
 use borrow.Author.Needs.{needs}

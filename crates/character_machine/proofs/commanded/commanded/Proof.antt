@@ -3,7 +3,7 @@
 use mathlib.Core.Path.{refl, _∙_}
 use Rattle.rules.specs.Change.{setBits}
 use Rattle.character.specs.Move.{then}
-use Rattle.character.specs.declared.chip.Position.the-variants.{Ignoring}
+use Rattle.character.specs.declared.Position.the-variants.{Ignoring}
 use Rattle.character.specs.Laws.{every, port-set}
 use Rattle.character.specs.Fact.{dcram, cgram, adram, dcramAt, cgramAt, adramAt, column, port, duty, digits, lights, position}
 use borrow.Author.Needs.{needs}

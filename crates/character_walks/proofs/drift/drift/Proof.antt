@@ -4,7 +4,7 @@ use mathlib.Core.Path.{subst, subst⁻¹}
 use mathlib.Core.Logic.{⊎-elim}
 use Rattle.character.specs.declared.command.Command.{Command}
 use Rattle.character.specs.Command.{Defined, commandOf}
-use Rattle.character_knowledge.specs.declared.control.Control.{Control}
+use Rattle.character_knowledge.specs.declared.Control.{Control}
 use Rattle.character_known.specs.Weakened.{Weakens, defined}
 use Rattle.character_known.specs.Drift.{aims-still}
 use Rattle.walks.specs.Run.{byteOf}

@@ -5,7 +5,7 @@ use mathlib.Core.Path.{_≡_, refl, sym, ap, _∙_, subst}
 use lib.ListN.{length}
 use Rattle.terms.specs.declared.Part.{Part}
 use Rattle.terms.specs.Part.{place}
-use Rattle.feed.specs.declared.state.Feed.{Feed}
+use Rattle.feed.specs.declared.Feed.{Feed}
 use Rattle.answers.specs.declared.Answer.the-variants.{NoPart}
 use Rattle.answers.specs.declared.Trial.{Trial}
 use Rattle.answers.specs.declared.Trial.the-variants.{Passed, Refused}

@@ -9,7 +9,7 @@ use Rattle.answers.specs.Ended.{inside}
 use Rattle.terms.specs.declared.Part.the-variants.{Pt6302}
 use Rattle.character_walks.specs.Walks as OfCharacter
 use Rattle.segment_walks.specs.Walks as OfSegment
-use Rattle.panel.specs.declared.knowledge.Panel.{Panel}
+use Rattle.panel.specs.declared.Panel.{Panel}
 use Rattle.replay.specs.Replay.{ReplaysFrom}
 use Rattle.replay.specs.Way.{passes}
 use Rattle.replay.specs.Walked.{stopped, characters-done, segments-done}

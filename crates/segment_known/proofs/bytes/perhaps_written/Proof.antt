@@ -2,7 +2,7 @@
 use mathlib.Core.Path.{subst⁻¹}
 use Rattle.rules.specs.Rule.{look}
 use Rattle.lamps.specs.Lamp.{wide4}
-use Rattle.changes.specs.declared.change.Change.{Change}
+use Rattle.changes.specs.declared.Change.{Change}
 use Rattle.segment.specs.Fact.{dataMode}
 use Rattle.segment.specs.Family.{sizes}
 use Rattle.segment.specs.Move.{written}

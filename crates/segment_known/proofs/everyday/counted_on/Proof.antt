@@ -3,8 +3,8 @@ use Prim.Native.Nat.{ℕ}
 use native.Mathlib.Omega.{arith}
 use mathlib.Core.Path.{ap, _∙_}
 use mathlib.Core.Logic.{⊎-elim}
-use Rattle.segment_knowledge.specs.declared.control.Pointing.{Pointing}
-use Rattle.segment_knowledge.specs.declared.control.Pointing.the-variants.{At}
+use Rattle.segment_knowledge.specs.declared.Pointing.{Pointing}
+use Rattle.segment_knowledge.specs.declared.Pointing.the-variants.{At}
 use Rattle.segment_known.specs.Writes.{pointing}
 use Rattle.segment_known.specs.Everyday.{ring-within, ring-round}
 use Rattle.segment.specs.Family.{sizes}

@@ -7,7 +7,7 @@ use Rattle.knowing.specs.Standing.{known}
 use Rattle.knowing.specs.Join.{join-itself, join-not}
 use Rattle.standing.specs.View.{stands}
 use Rattle.lamps.specs.View.{shown}
-use Rattle.changes.specs.declared.change.Change.the-variants.{Keep, Meet}
+use Rattle.changes.specs.declared.Change.the-variants.{Keep, Meet}
 use Rattle.segment.specs.Family.{sizes}
 use Rattle.segment_knowledge.specs.View.{points}
 use Rattle.segment_known.specs.Anywhere.{met-kept}

@@ -1,8 +1,8 @@
 -- `segment_known::stored::stored_by` meets its contract: a known address is a cell of the part, or none; at an unknown one every cell meets the byte. Assumes nothing.
 use mathlib.Core.Path.{refl, sym, ap, _∙_, subst⁻¹}
 use Rattle.rules.specs.Rule.{look}
-use Rattle.changes.specs.declared.change.Change.the-variants.{Meet}
-use Rattle.segment.specs.declared.chip.Sizes.{Sizes}
+use Rattle.changes.specs.declared.Change.the-variants.{Meet}
+use Rattle.segment.specs.declared.Sizes.{Sizes}
 use Rattle.segment.specs.Fact.{address}
 use Rattle.segment.specs.Family.{sizes}
 use Rattle.segment.specs.Move.{stored}

@@ -38,10 +38,10 @@ use denote.Triple.Walked.{says, Stays, stay-none, stay-none-ref, walkOf, goes-no
 use denote.Exit.{yes}
 use Rattle.feed.specs.Close.{Closes}
 use Rattle.terms.specs.Part.{partOf}
-use Rattle.feed.specs.declared.state.Feed.{Feed}
+use Rattle.feed.specs.declared.Feed.{Feed}
 use Rattle.answers.specs.declared.Answer.{Answer}
-use Rattle.feed.proofs.state.Feed as T
-use Rattle.feed.proofs.state.Feed.Laws as T′
+use Rattle.feed.proofs.Feed as T
+use Rattle.feed.proofs.Feed.Laws as T′
 use Rattle.answers.proofs.Answer as S
 use Rattle.answers.proofs.Answer.Laws as S′
 use Rattle.service.proofs.Values.{R, mach}

@@ -45,10 +45,10 @@ use denote.Triple.Walked.{says, Stays, stay-none, stay-ref, stay-none-slice, wal
 use denote.Exit.{yes}
 use Rattle.packets.specs.Takes.{Takes}
 use Rattle.terms.specs.Part.{partOf}
-use Rattle.feed.specs.declared.state.Feed.{Feed}
+use Rattle.feed.specs.declared.Feed.{Feed}
 use Rattle.packets.specs.declared.records.Taken.{Taken}
-use Rattle.feed.proofs.state.Feed as T
-use Rattle.feed.proofs.state.Feed.Laws as T′
+use Rattle.feed.proofs.Feed as T
+use Rattle.feed.proofs.Feed.Laws as T′
 use Rattle.answers.proofs.Answer as S
 use Rattle.answers.proofs.Answer.Laws as S′
 use Rattle.packets.proofs.records.Taken as P

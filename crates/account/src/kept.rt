@@ -1,8 +1,0 @@
-// The refusal that stands.
-use answers::Answer;
-
-// As it was answered, if there is one.
-pub enum Kept {
-    None,
-    Refused(Answer),
-}
