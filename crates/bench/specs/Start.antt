@@ -4,8 +4,8 @@ use mathlib.Core.Path.{_≡_}
 use mathlib.Core.List.{List}
 use lib.Dec.{eqb}
 use Rattle.rules.specs.Choice.{whether}
-use Rattle.standing.specs.declared.Standing.{Standing}
-use Rattle.standing.specs.declared.Standing.the-variants.{Unknown}
+use Rattle.fact.specs.declared.Single.{Single}
+use Rattle.fact.specs.declared.Single.the-variants.{Unknown}
 use Rattle.segment_knowledge.specs.declared.Control as Segment
 use Rattle.segment_knowledge.specs.declared.Pointing.the-variants as Of·Segment
 use Rattle.character_knowledge.specs.declared.Control as Character
@@ -19,7 +19,7 @@ use Rattle.bench.specs.declared.start.Marks.{Marks}
 abbrev pub unless : {A : Type 0} → ℕ → A → A → A
 unless mark fact unknown = whether (eqb mark 0) fact unknown
 
-abbrev pub kept : ℕ → Standing → Standing
+abbrev pub kept : ℕ → Single → Single
 kept mark fact = unless mark fact Unknown
 
 abbrev pub lessOfSegment : Marks → Segment.Control → Segment.Control

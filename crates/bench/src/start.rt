@@ -1,9 +1,9 @@
 // What each round starts from.
 use character_knowledge::Control as Character;
+use fact::Single;
 use panel::Panel;
 use replay::from_nothing;
 use segment_knowledge::Control as Segment;
-use standing::Standing;
 ghost use mathlib.Core.Path.{_≡_};
 ghost use Rattle.bench.specs.Start.{kept, lessOfSegment, lessOfCharacter, Starts};
 
@@ -60,14 +60,14 @@ fn less_of_character(marks: Marks, c: Character) -> Character
         dcram_at: character_knowledge::Pointing::Unknown,
         cgram_at: character_knowledge::Pointing::Unknown,
         adram_at: character_knowledge::Pointing::Unknown,
-        column: Standing::Unknown,
+        column: Single::Unknown,
         ..still
     }
 }
 
 // A fact that is forgotten where it has a mark.
-fn kept(mark: u8, fact: Standing) -> Standing
+fn kept(mark: u8, fact: Single) -> Single
     ensures { λ r. ⌜ r ≡ kept mark fact ⌝ }
 {
-    if mark == 0 { fact } else { Standing::Unknown }
+    if mark == 0 { fact } else { Single::Unknown }
 }

@@ -2,7 +2,7 @@
 use mathlib.Core.Path.{_≡_, refl, sym}
 use lib.ListN.{length}
 use Rattle.knowing.specs.Join.{not-known, known-one}
-use Rattle.standing.specs.View.{same-single}
+use Rattle.fact.specs.View.{same-single}
 use Rattle.lamps.specs.Lamp.{one-code}
 use Rattle.lamps.specs.Row.{one-row}
 use Rattle.character.specs.Fact.{Fact, dcram, cgram, adram, dcramAt, cgramAt, adramAt, column, port, duty, digits, lights, position}

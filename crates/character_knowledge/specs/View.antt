@@ -3,7 +3,7 @@ use Prim.Native.Nat.{ℕ}
 use Rattle.rules.specs.Rule.{Rule}
 use Rattle.knowing.specs.Standing as Of
 use Rattle.knowing.specs.Ways as Ways
-use Rattle.standing.specs.View.{stands}
+use Rattle.fact.specs.View.{stands}
 use Rattle.lamps.specs.View.{shown, held}
 use Rattle.character.specs.Fact.{Fact, same?, range, textBits, columnBits, pairBits, portBits, dcram, cgram, adram, dcramAt, cgramAt, adramAt, column, port, duty, digits, lights, position}
 use Rattle.character_knowledge.specs.declared.Pointing.{Pointing}

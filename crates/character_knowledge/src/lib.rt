@@ -1,6 +1,7 @@
 // What is known of a PT6302 panel, as a value.
 mod numbers;
 
+use fact::Single;
 pub use numbers::ADRAM;
 pub use numbers::CGRAM;
 pub use numbers::DCRAM;
@@ -10,7 +11,6 @@ pub use numbers::IGNORING;
 pub use numbers::NORMAL;
 pub use numbers::OFF;
 pub use numbers::ON;
-use standing::Standing;
 use terms::Address;
 ghost use mathlib.Core.Path.{_≡_};
 ghost use Rattle.knowing.specs.Standing.{unknown};
@@ -29,12 +29,12 @@ pub struct Control {
     pub dcram_at: Pointing,
     pub cgram_at: Pointing,
     pub adram_at: Pointing,
-    pub column: Standing,
+    pub column: Single,
     pub port: u16,
-    pub duty: Standing,
-    pub digits: Standing,
-    pub lights: Standing,
-    pub position: Standing,
+    pub duty: Single,
+    pub digits: Single,
+    pub lights: Single,
+    pub position: Single,
 }
 
 // Nothing is known.
@@ -45,12 +45,12 @@ pub fn no_control() -> Control
         dcram_at: Pointing::Unknown,
         cgram_at: Pointing::Unknown,
         adram_at: Pointing::Unknown,
-        column: Standing::Unknown,
+        column: Single::Unknown,
         port: 0,
-        duty: Standing::Unknown,
-        digits: Standing::Unknown,
-        lights: Standing::Unknown,
-        position: Standing::Unknown,
+        duty: Single::Unknown,
+        digits: Single::Unknown,
+        lights: Single::Unknown,
+        position: Single::Unknown,
     }
 }
 
@@ -59,7 +59,7 @@ pub fn at(c: Control, place: u8) -> Control
     ensures { λ r. ⌜ ((m : Memory) → Learns (cview m) same? position place c r) ⌝ }
 {
     Control {
-        position: Standing::Known(place),
+        position: Single::Known(place),
         ..c
     }
 }

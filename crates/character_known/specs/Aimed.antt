@@ -8,7 +8,7 @@ use borrow.Author.Tests.{eq-eqb, ne-eqb}
 use Rattle.rules.specs.Rule.{look}
 use Rattle.rules.specs.Change.{setBits}
 use Rattle.knowing.specs.Standing.{known}
-use Rattle.standing.specs.View.{stands}
+use Rattle.fact.specs.View.{stands}
 use Rattle.changes.specs.Laws.{put-told}
 use Rattle.terms.specs.declared.Event.the-variants.{ByteIn}
 use Rattle.character.specs.Fact.{same?, dcram, cgram, adram, dcramAt, cgramAt, adramAt, column, position}

@@ -16,9 +16,9 @@ use Rattle.knowing.specs.Know.{join, learn, lifted, common, know}
 use Rattle.knowing.specs.Join.{not-known, same-standing, join-other, join-not, join-nor, join-itself, join-late, join-both, join-known, common-apart}
 use Rattle.knowing.specs.Look.{look-known, idle-ways}
 use Rattle.knowing.specs.Lost.{common-lost, know-leaves}
-use Rattle.standing.specs.View.{stands}
-use Rattle.standing.specs.declared.Standing as Of
-use Rattle.standing.specs.declared.Standing.the-variants.{Known, Unknown as NotKnown}
+use Rattle.fact.specs.View.{stands}
+use Rattle.fact.specs.declared.Single as Of
+use Rattle.fact.specs.declared.Single.the-variants.{Known, Unknown as NotKnown}
 use Rattle.changes.specs.declared.Change.{Change}
 use Rattle.changes.specs.Change.{seen, Inside, loose}
 use Rattle.changes.specs.Laws.{loose-seen, loose-inside}
@@ -228,7 +228,7 @@ module _ (b : ℕ) (c : Control) where
           rw (ne-eqb (n % 5) 4 z)
           (by _ _ (At (record { 0 = a })) (in-character a n a e (ap stands q) (λ y. absurd (z y)) (λ y. refl)) (sym (ap (λ (s : Standing). join s (known a)) (ap points e) ∙ join-itself (known a))))
 
-      go : (at : Pointing) (col : Of.Standing) → c .«cgram_at» ≡ at → c .column ≡ col → Draws (metColumn at col b) (stays at col)
+      go : (at : Pointing) (col : Of.Single) → c .«cgram_at» ≡ at → c .column ≡ col → Draws (metColumn at col b) (stays at col)
       go (At a) (Known n) e q = at-column (a .0) n e q (ℕ-discrete (n % 5) 4)
       go (At a) NotKnown e q =
           by _ _ Unknown (known-step cgramAt (λ a. look column (drawn b a)) (stood c 3) _ (a .0) (λ m. ap points e) (column-step b (stood c 3) (a .0) (c .column) (ap points e) (ap stands q) (ap stands q)))

@@ -11,9 +11,9 @@ use Rattle.knowing.specs.Standing.{Standing, unknown}
 use Rattle.knowing.specs.Know.{join, know}
 use Rattle.knowing.specs.Join.{not-known, join-not}
 use Rattle.knowing.specs.Look.{know-same}
-use Rattle.standing.specs.View.{stands}
-use Rattle.standing.specs.declared.Standing as Of
-use Rattle.standing.specs.declared.Standing.the-variants.{Known, Unknown as NotKnown}
+use Rattle.fact.specs.View.{stands}
+use Rattle.fact.specs.declared.Single as Of
+use Rattle.fact.specs.declared.Single.the-variants.{Known, Unknown as NotKnown}
 use Rattle.lamps.specs.View.{met}
 use Rattle.changes.specs.declared.Change.the-variants.{Meet}
 use Rattle.changes.specs.Change.{among, metRun}
@@ -41,12 +41,12 @@ met-at : (to : Pointing) (b : ℕ) → points to ≡ unknown → metAt to b ≡ 
 met-at (At a) b e = absurd (not-known (a .0) (sym e))
 met-at Unknown b e = refl
 
-met-column : (to : Pointing) (col : Of.Standing) (b : ℕ) → points to ≡ unknown → stands col ≡ unknown → metColumn to col b ≡ metIn columns b
+met-column : (to : Pointing) (col : Of.Single) (b : ℕ) → points to ≡ unknown → stands col ≡ unknown → metColumn to col b ≡ metIn columns b
 met-column (At a) col b e q = absurd (not-known (a .0) (sym e))
 met-column Unknown (Known n) b e q = absurd (not-known n (sym q))
 met-column Unknown NotKnown b e q = refl
 
-stays-lost : (to : Pointing) (col : Of.Standing) → points to ≡ unknown → points (stays to col) ≡ unknown
+stays-lost : (to : Pointing) (col : Of.Single) → points to ≡ unknown → points (stays to col) ≡ unknown
 stays-lost to col e = go (lasts col)
   where
     go : (t : Bool) → points (whether t Unknown to) ≡ unknown

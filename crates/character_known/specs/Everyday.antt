@@ -4,7 +4,7 @@ use mathlib.Core.Path.{_≡_, refl, subst, subst⁻¹}
 use Rattle.rules.specs.Rule.{gives}
 use Rattle.knowing.specs.Standing.{known}
 use Rattle.knowing.specs.Ways as Ways
-use Rattle.standing.specs.View.{stands}
+use Rattle.fact.specs.View.{stands}
 use Rattle.terms.specs.declared.Event.the-variants.{ByteIn, Falls}
 use Rattle.character.specs.declared.command.Command.{Command}
 use Rattle.character.specs.Command.{commandOf}

@@ -8,9 +8,9 @@ use borrow.Author.Tests.{eq-eqb, ne-eqb}
 use Rattle.rules.specs.Rule.{Rule, look}
 use Rattle.rules.specs.Change.{setBits}
 use Rattle.knowing.specs.Standing.{known, unknown}
-use Rattle.standing.specs.View.{stands}
-use Rattle.standing.specs.declared.Standing.{Standing}
-use Rattle.standing.specs.declared.Standing.the-variants.{Known}
+use Rattle.fact.specs.View.{stands}
+use Rattle.fact.specs.declared.Single.{Single}
+use Rattle.fact.specs.declared.Single.the-variants.{Known}
 use Rattle.changes.specs.declared.Change.{Change}
 use Rattle.changes.specs.declared.Change.the-variants.{Meet}
 use Rattle.changes.specs.Laws.{put-told}
@@ -27,7 +27,7 @@ use Rattle.character_known.specs.Columns.{column-open, character-open}
 use Rattle.character_known.specs.Ram.{Ram, text, columns, pairs, aimed, changedIn, putIn}
 
 -- The same with another place in CGRAM.
-abbrev pub placed : Control → Pointing → Standing → Control
+abbrev pub placed : Control → Pointing → Single → Control
 placed c at col = record {
   «dcram_at» = c .«dcram_at»;
   «cgram_at» = at;
@@ -78,7 +78,7 @@ module _ (b : ℕ) (c : Control) where
       }
 
   -- The character is known, and the column is not.
-  pub column-step : (a : ℕ) (col : Standing) → points (c .«cgram_at») ≡ known a → stands (c .column) ≡ unknown → stands col ≡ unknown
+  pub column-step : (a : ℕ) (col : Single) → points (c .«cgram_at») ≡ known a → stands (c .column) ≡ unknown → stands col ≡ unknown
       → Steps (look column (drawn b a)) c (changedIn columns (placed c Unknown col) (Meet (record { 0 = a % 8 * 5 }) 1 5 b))
   column-step a col p u v = record {
     knows = λ m. column-open (cview m c) _ b

@@ -3,8 +3,8 @@
 use Prim.Native.Nat.{ℕ, _/_, _%_, _<_}
 use mathlib.Core.Path.{_≡_, subst}
 use Rattle.knowing.specs.Standing.{Standing, known, unknown}
-use Rattle.standing.specs.View.{stands}
-use Rattle.standing.specs.declared.Standing.the-variants.{Known}
+use Rattle.fact.specs.View.{stands}
+use Rattle.fact.specs.declared.Single.the-variants.{Known}
 use Rattle.changes.specs.declared.Change.{Change}
 use Rattle.changes.specs.declared.Change.the-variants.{Keep, Put, Meet}
 use Rattle.character.specs.declared.Position.{Position}

@@ -14,8 +14,8 @@ use Rattle.rules.specs.Change.{setBits}
 use Rattle.knowing.specs.Standing as Of
 use Rattle.knowing.specs.Know.{lifted, learn, join}
 use Rattle.knowing.specs.Join.{join-itself, join-not}
-use Rattle.standing.specs.declared.Standing.{Standing}
-use Rattle.standing.specs.declared.Standing.the-variants.{Known, Unknown as NotKnown}
+use Rattle.fact.specs.declared.Single.{Single}
+use Rattle.fact.specs.declared.Single.the-variants.{Known, Unknown as NotKnown}
 use Rattle.lamps.specs.View.{shown, OfByte, Meets}
 use Rattle.lamps.specs.Lamp.{wide2, byte-none-past, byte-met-code}
 use Rattle.changes.specs.declared.Change.{Change}
@@ -37,18 +37,18 @@ abbrev pub metAt : Pointing → ℕ → Change
 metAt (At a) b = Meet (record { 0 = a .0 % 16 }) 1 1 b
 metAt Unknown b = Meet (record { 0 = 0 }) 1 16 b
 
-abbrev pub metColumn : Pointing → Standing → ℕ → Change
+abbrev pub metColumn : Pointing → Single → ℕ → Change
 metColumn (At a) (Known n) b = Meet (record { 0 = a .0 % 8 * 5 + n % 5 }) 1 1 b
 metColumn (At a) NotKnown b = Meet (record { 0 = a .0 % 8 * 5 }) 1 5 b
 metColumn Unknown (Known n) b = Meet (record { 0 = n % 5 }) 5 8 b
 metColumn Unknown NotKnown b = Meet (record { 0 = 0 }) 1 40 b
 
 -- A column may be the last of its character; and the address in CGRAM, where a column may have been drawn or not, stays before the last.
-abbrev pub lasts : Standing → Bool
+abbrev pub lasts : Single → Bool
 lasts (Known n) = eqb (n % 5) 4
 lasts NotKnown = true
 
-abbrev pub stays : Pointing → Standing → Pointing
+abbrev pub stays : Pointing → Single → Pointing
 stays to col = whether (lasts col) Unknown to
 
 -- What the command x makes of a fact of c, as a first byte.
@@ -77,7 +77,7 @@ Weakens x c r = (m : Memory) (f : Fact) → cview m r f ≡ left m x c f
 pub same : (s : Of.Standing) → s ≡ join s s
 same s = sym (join-itself s)
 
-pub same-place : (to : Pointing) (col : Standing) → points (stays to col) ≡ join (points (stays to col)) (points to)
+pub same-place : (to : Pointing) (col : Single) → points (stays to col) ≡ join (points (stays to col)) (points to)
 same-place to col = go (lasts col)
   where
     go : (t : Bool) → points (whether t Unknown to) ≡ join (points (whether t Unknown to)) (points to)

@@ -8,16 +8,16 @@ use character_knowledge::Pointing;
 use character_steps::Step;
 use character_steps::both_pointing;
 use character_steps::lost;
+use fact::Single;
+use fact::both_singles;
 use lamps::TWO;
 use lamps::code_of;
 use lamps::meet_code;
-use standing::Standing;
-use standing::both_standing;
 use terms::Address;
 ghost use mathlib.Core.Path.{_≡_};
 ghost use Rattle.rules.specs.Rule.{look};
 ghost use Rattle.knowing.specs.Standing.{unknown};
-ghost use Rattle.standing.specs.View.{stands};
+ghost use Rattle.fact.specs.View.{stands};
 ghost use Rattle.character.specs.Command.{Defined};
 ghost use Rattle.character.specs.Fact.{position};
 ghost use Rattle.character.specs.Move.{byteIn};
@@ -54,8 +54,8 @@ pub fn weakened(c: Control, command: Command) -> Control
     let mut cgram_at = c.cgram_at;
     let column = c.column;
     let last = match column {
-        Standing::Known(number) => number % 5 == 4,
-        Standing::Unknown => true,
+        Single::Known(number) => number % 5 == 4,
+        Single::Unknown => true,
     };
     if last {
         cgram_at = Pointing::Unknown;
@@ -67,10 +67,10 @@ pub fn weakened(c: Control, command: Command) -> Control
     match command {
         Command::Cgram(address) => cgram_at = both_pointing(cgram_at, Pointing::At(address)),
         Command::Port(bits) => port = meet_code(TWO, port, code_of(TWO, bits)),
-        Command::Duty(value) => duty = both_standing(duty, Standing::Known(value)),
-        Command::Digits(value) => digits = both_standing(digits, Standing::Known(value)),
+        Command::Duty(value) => duty = both_singles(duty, Single::Known(value)),
+        Command::Digits(value) => digits = both_singles(digits, Single::Known(value)),
         Command::Light(value) => {
-            lights = both_standing(lights, Standing::Known(lights_number(value)));
+            lights = both_singles(lights, Single::Known(lights_number(value)));
         }
         Command::Dcram(_) => {}
         Command::Adram(_) => {}
@@ -82,7 +82,7 @@ pub fn weakened(c: Control, command: Command) -> Control
         dcram_at: Pointing::Unknown,
         cgram_at,
         adram_at: Pointing::Unknown,
-        column: Standing::Unknown,
+        column: Single::Unknown,
         port,
         duty,
         digits,
@@ -102,20 +102,20 @@ fn met_cells(to: Pointing, byte: u8) -> Change
 }
 
 // The columns of CGRAM.
-fn met_columns(to: Pointing, column: Standing, byte: u8) -> Change
+fn met_columns(to: Pointing, column: Single, byte: u8) -> Change
     ensures { λ r. ⌜ r ≡ metColumn to column byte ⌝ }
 {
     match to {
         Pointing::At(address) => {
             let first = address.0 % 8 * 5;
             match column {
-                Standing::Known(number) => Change::Meet(Address(first + number % 5), 1, 1, byte),
-                Standing::Unknown => Change::Meet(Address(first), 1, 5, byte),
+                Single::Known(number) => Change::Meet(Address(first + number % 5), 1, 1, byte),
+                Single::Unknown => Change::Meet(Address(first), 1, 5, byte),
             }
         }
         Pointing::Unknown => match column {
-            Standing::Known(number) => Change::Meet(Address(number % 5), 5, 8, byte),
-            Standing::Unknown => Change::Meet(Address(0), 1, 40, byte),
+            Single::Known(number) => Change::Meet(Address(number % 5), 5, 8, byte),
+            Single::Unknown => Change::Meet(Address(0), 1, 40, byte),
         },
     }
 }

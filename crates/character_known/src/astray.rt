@@ -5,7 +5,7 @@ use character_knowledge::CGRAM;
 use character_knowledge::Control;
 use character_knowledge::DCRAM;
 use character_knowledge::Pointing;
-use standing::Standing;
+use fact::Single;
 ghost use Rattle.character_known.specs.Ram.{Gone};
 
 pub enum Astray {
@@ -28,7 +28,7 @@ pub fn strays(c: Control) -> Astray
     let column = c.column;
     let marked = c.adram_at;
     match position {
-        Standing::Known(place) => match place {
+        Single::Known(place) => match place {
             DCRAM => {
                 if let Pointing::Unknown = shown {
                     return Astray::Shown;
@@ -36,7 +36,7 @@ pub fn strays(c: Control) -> Astray
             }
             CGRAM => {
                 if let Pointing::Unknown = drawn {
-                    if let Standing::Unknown = column {
+                    if let Single::Unknown = column {
                         return Astray::Drawn;
                     }
                 }
@@ -48,10 +48,10 @@ pub fn strays(c: Control) -> Astray
             }
             _ => {}
         },
-        Standing::Unknown => {
+        Single::Unknown => {
             if let Pointing::Unknown = shown {
                 if let Pointing::Unknown = drawn {
-                    if let Standing::Unknown = column {
+                    if let Single::Unknown = column {
                         if let Pointing::Unknown = marked {
                             return Astray::Anywhere;
                         }

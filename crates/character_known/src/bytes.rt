@@ -13,7 +13,7 @@ use character_knowledge::FIRST;
 use character_knowledge::Pointing;
 use character_steps::Step;
 use character_steps::kept;
-use standing::Standing;
+use fact::Single;
 use terms::Address;
 ghost use Rattle.rules.specs.Rule.{look};
 ghost use Rattle.character.specs.Fact.{position, dcramAt, adramAt};
@@ -25,14 +25,14 @@ pub fn byte_in(c: Control, byte: u8) -> Step
 {
     let position = c.position;
     match position {
-        Standing::Known(place) => match place {
+        Single::Known(place) => match place {
             FIRST => first_in(c, byte),
             DCRAM => to_show(c, byte),
             CGRAM => to_draw(c, byte),
             ADRAM => to_mark(c, byte),
             _ => kept(c),
         },
-        Standing::Unknown => in_anywhere(c, byte),
+        Single::Unknown => in_anywhere(c, byte),
     }
 }
 

@@ -4,7 +4,7 @@ use changes::Change;
 use character_knowledge::Control;
 use character_knowledge::Pointing;
 use character_steps::Step;
-use standing::Standing;
+use fact::Single;
 use terms::Address;
 ghost use mathlib.Core.Path.{_≡_};
 ghost use Rattle.rules.specs.Rule.{look};
@@ -33,17 +33,17 @@ fn draw_in(mut c: Control, byte: u8, address: Address) -> Step
     let character = address.0 % 8;
     let column = c.column;
     let cgram = match column {
-        Standing::Known(number) => {
+        Single::Known(number) => {
             let at = number % 5;
             let to = if at == 4 {
                 (character + 1) % 8
             } else {
                 address.0
             };
-            c = drawing(c, Pointing::At(Address(to)), Standing::Known((at + 1) % 5));
+            c = drawing(c, Pointing::At(Address(to)), Single::Known((at + 1) % 5));
             Change::Put(Address(character * 5 + at), byte)
         }
-        Standing::Unknown => {
+        Single::Unknown => {
             c = drawing(c, Pointing::Unknown, column);
             Change::Meet(Address(character * 5), 1, 5, byte)
         }
@@ -63,12 +63,12 @@ fn draw_anywhere(mut c: Control, byte: u8) -> Step
 {
     let column = c.column;
     let cgram = match column {
-        Standing::Known(number) => {
+        Single::Known(number) => {
             let at = number % 5;
-            c = drawing(c, Pointing::Unknown, Standing::Known((at + 1) % 5));
+            c = drawing(c, Pointing::Unknown, Single::Known((at + 1) % 5));
             Change::Meet(Address(at), 5, 8, byte)
         }
-        Standing::Unknown => Change::Meet(Address(0), 1, 40, byte),
+        Single::Unknown => Change::Meet(Address(0), 1, 40, byte),
     };
     Step {
         control: c,
@@ -79,7 +79,7 @@ fn draw_anywhere(mut c: Control, byte: u8) -> Step
 }
 
 // The same with another place in CGRAM.
-fn drawing(c: Control, cgram_at: Pointing, column: Standing) -> Control
+fn drawing(c: Control, cgram_at: Pointing, column: Single) -> Control
     ensures { λ r. ⌜ r ≡ placed c «cgram_at» column ⌝ }
 {
     Control {

@@ -16,9 +16,9 @@ use character_knowledge::no_control;
 use character_steps::Step;
 use character_steps::forgotten;
 use character_steps::kept;
+use fact::Single;
 use lamps::TWO;
 use lamps::put_byte;
-use standing::Standing;
 use terms::Address;
 ghost use mathlib.Core.Path.{_≡_};
 ghost use Rattle.rules.specs.Rule.{gives};
@@ -53,7 +53,7 @@ pub fn show_from(c: Control, address: Address) -> Control
 {
     Control {
         dcram_at: Pointing::At(address),
-        position: Standing::Known(DCRAM),
+        position: Single::Known(DCRAM),
         ..c
     }
 }
@@ -63,8 +63,8 @@ pub fn draw_from(c: Control, address: Address) -> Control
 {
     Control {
         cgram_at: Pointing::At(address),
-        column: Standing::Known(0),
-        position: Standing::Known(CGRAM),
+        column: Single::Known(0),
+        position: Single::Known(CGRAM),
         ..c
     }
 }
@@ -74,7 +74,7 @@ pub fn mark_from(c: Control, address: Address) -> Control
 {
     Control {
         adram_at: Pointing::At(address),
-        position: Standing::Known(ADRAM),
+        position: Single::Known(ADRAM),
         ..c
     }
 }
@@ -86,7 +86,7 @@ pub fn port_set(c: Control, bits: u8) -> Control
     let port = put_byte(TWO, old, bits);
     Control {
         port,
-        position: Standing::Known(IGNORING),
+        position: Single::Known(IGNORING),
         ..c
     }
 }
@@ -95,8 +95,8 @@ pub fn duty_set(c: Control, duty: u8) -> Control
     ensures { λ r. ⌜ Keeps (gives (commanded (Command.Duty duty))) c r ⌝ }
 {
     Control {
-        duty: Standing::Known(duty),
-        position: Standing::Known(IGNORING),
+        duty: Single::Known(duty),
+        position: Single::Known(IGNORING),
         ..c
     }
 }
@@ -105,8 +105,8 @@ pub fn digits_set(c: Control, digits: u8) -> Control
     ensures { λ r. ⌜ Keeps (gives (commanded (Command.Digits digits))) c r ⌝ }
 {
     Control {
-        digits: Standing::Known(digits),
-        position: Standing::Known(IGNORING),
+        digits: Single::Known(digits),
+        position: Single::Known(IGNORING),
         ..c
     }
 }
@@ -116,8 +116,8 @@ pub fn lights_set(c: Control, lights: Lights) -> Control
 {
     let number = lights_number(lights);
     Control {
-        lights: Standing::Known(number),
-        position: Standing::Known(IGNORING),
+        lights: Single::Known(number),
+        position: Single::Known(IGNORING),
         ..c
     }
 }

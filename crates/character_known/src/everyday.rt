@@ -8,11 +8,11 @@ use character_knowledge::FIRST;
 use character_knowledge::IDLE;
 use character_knowledge::Pointing;
 use character_knowledge::at;
-use standing::Standing;
+use fact::Single;
 use terms::Address;
 ghost use mathlib.Core.Path.{_≡_};
 ghost use Rattle.knowing.specs.Standing.{known};
-ghost use Rattle.standing.specs.View.{stands};
+ghost use Rattle.fact.specs.View.{stands};
 ghost use Rattle.terms.specs.declared.Event.the-variants.{Falls, Rises};
 ghost use Rattle.character.specs.declared.Position.the-variants.{Dcram, Cgram, Adram};
 ghost use Rattle.character.specs.Value.{at-position};
@@ -49,7 +49,7 @@ pub fn goes_to(c: Control) -> Target
     ensures { λ r. ⌜ Hits c r ⌝ }
 {
     let position = c.position;
-    let Standing::Known(place) = position else {
+    let Single::Known(place) = position else {
         return Target::Elsewhere;
     };
     match place {
@@ -81,7 +81,7 @@ fn draws(c: Control) -> Target
     let to = c.cgram_at;
     let column = c.column;
     if let Pointing::At(character) = to {
-        if let Standing::Known(number) = column {
+        if let Single::Known(number) = column {
             if character.0 < 8 {
                 if number < 5 {
                     return Target::Drawn(Address(character.0 * 5 + number));

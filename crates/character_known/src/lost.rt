@@ -1,8 +1,8 @@
 // Nothing at all is known, as behind a gap.
 use crate::astray::Astray;
 use character_knowledge::Control;
+use fact::Single;
 use lamp_tests::none_known;
-use standing::Standing;
 ghost use mathlib.Core.Path.{_≡_};
 ghost use mathlib.Core.Bool.{true};
 ghost use Rattle.knowing.specs.Standing.{unknown};
@@ -28,15 +28,15 @@ fn nothing_left(c: Control) -> bool
     ensures { λ r. ⌜ (r ≡ true → (f : Fact) → cview blank c f ≡ unknown) ⌝ }
 {
     let duty = c.duty;
-    let Standing::Unknown = duty else {
+    let Single::Unknown = duty else {
         return false;
     };
     let digits = c.digits;
-    let Standing::Unknown = digits else {
+    let Single::Unknown = digits else {
         return false;
     };
     let lights = c.lights;
-    let Standing::Unknown = lights else {
+    let Single::Unknown = lights else {
         return false;
     };
     c.port == 0

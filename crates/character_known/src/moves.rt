@@ -12,11 +12,11 @@ use character_steps::Step;
 use character_steps::forgotten;
 use character_steps::kept;
 use character_steps::lost;
+use fact::Single;
 use lamps::EIGHT;
 use lamps::SEVEN;
 use lamps::TWO;
 use lamps::put_byte;
-use standing::Standing;
 use terms::Address;
 use terms::Event;
 ghost use mathlib.Core.Path.{_≡_};
@@ -59,12 +59,12 @@ fn at_power(c: Control) -> Step
         dcram_at: Pointing::At(Address(0)),
         cgram_at: Pointing::At(Address(0)),
         adram_at: Pointing::At(Address(0)),
-        column: Standing::Known(0),
+        column: Single::Known(0),
         port,
-        duty: Standing::Known(0),
-        digits: Standing::Known(0),
-        lights: Standing::Known(OFF),
-        position: Standing::Known(IDLE),
+        duty: Single::Known(0),
+        digits: Single::Known(0),
+        lights: Single::Known(OFF),
+        position: Single::Known(IDLE),
     })
 }
 

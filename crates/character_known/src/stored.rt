@@ -2,7 +2,7 @@
 // records. A run ends at its RAM's last cell at the latest, so that the address goes round once at most.
 use character_knowledge::Control;
 use character_knowledge::Pointing;
-use standing::Standing;
+use fact::Single;
 use terms::Address;
 ghost use mathlib.Core.Path.{_≡_};
 ghost use Prim.Native.Nat.{_+_, _≤_};
@@ -28,7 +28,7 @@ pub fn drawn_by(c: Control, first: Address, count: usize) -> Control
     let at = if next < 40 { next } else { 0 };
     Control {
         cgram_at: Pointing::At(Address(at / 5)),
-        column: Standing::Known(at % 5),
+        column: Single::Known(at % 5),
         ..c
     }
 }

@@ -2,12 +2,12 @@
 use character_knowledge::Control;
 use character_knowledge::Knowledge;
 use character_knowledge::Pointing;
+use fact::within;
 use lamp_tests::all_sound;
 use lamp_tests::lamps_sound;
 use lamps::EIGHT;
 use lamps::SEVEN;
 use lamps::TWO;
-use standing::within;
 ghost use Rattle.knowing.specs.Standing.{Within, Sound};
 ghost use Rattle.character.specs.Fact.{range};
 ghost use Rattle.rules.specs.Tests.{Tests};

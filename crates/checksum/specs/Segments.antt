@@ -5,7 +5,7 @@ use lib.ListN.{take}
 use Rattle.segment.specs.declared.Family.{Family}
 use Rattle.segment.specs.declared.Family.the-variants.{Pt6312, Pt6315}
 use Rattle.segment.specs.Family.{sizes}
-use Rattle.standing.specs.declared.Standing.{Standing}
+use Rattle.fact.specs.declared.Single.{Single}
 use Rattle.segment_knowledge.specs.declared.Pointing.{Pointing}
 use Rattle.segment_knowledge.specs.declared.Pointing.the-variants.{At, Invalid, Unknown}
 use Rattle.segment_knowledge.specs.declared.Control.{Control}
@@ -25,7 +25,7 @@ cellSum sum family cells = allTaken sum (take (sizes family .cells) cells)
 abbrev pub keySum : ℕ → Family → List ℕ → ℕ
 keySum sum family keys = allTaken sum (take (sizes family .keys) keys)
 
-abbrev pub switchSum : ℕ → Family → Standing → ℕ
+abbrev pub switchSum : ℕ → Family → Single → ℕ
 switchSum sum Pt6312 switches = taken sum (factCode switches)
 switchSum sum Pt6315 switches = sum
 

@@ -1,9 +1,9 @@
 // The facts of a PT6312 or PT6315 panel in the checksum.
 use crate::sum::Sum;
+use fact::Single;
 use segment::Family;
 use segment_knowledge::Knowledge;
 use segment_knowledge::Pointing;
-use standing::Standing;
 ghost use mathlib.Core.Path.{_≡_};
 ghost use lib.ListN.{take};
 ghost use Rattle.checksum.specs.Sum.{taken, allTaken};
@@ -69,7 +69,7 @@ fn keys(sum: Sum, n: u8, row: [u16; 4]) -> Sum
     sum.first(n, &row)
 }
 
-fn switches_in(sum: Sum, family: Family, fact: Standing) -> Sum
+fn switches_in(sum: Sum, family: Family, fact: Single) -> Sum
     ensures { λ r. ⌜ r .0 ≡ switchSum (sum .0) family fact ⌝ }
 {
     match family {

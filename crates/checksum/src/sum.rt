@@ -1,5 +1,5 @@
 // A checksum: for each number it is 31 times what it was plus the number, modulo the largest prime below 2^32.
-use standing::Standing;
+use fact::Single;
 use terms::Place;
 ghost use mathlib.Core.Path.{_≡_};
 ghost use Prim.Native.Nat.{_%_};
@@ -23,7 +23,7 @@ impl Sum {
     }
 
     // What is known of one fact: its value, or 256.
-    pub fn fact(self, fact: Standing) -> Sum
+    pub fn fact(self, fact: Single) -> Sum
         ensures { λ r. ⌜ r .0 ≡ taken (self .0) (factCode fact) ⌝ }
     {
         self.take(code(fact))
@@ -52,11 +52,11 @@ impl Sum {
     }
 }
 
-fn code(fact: Standing) -> u16
+fn code(fact: Single) -> u16
     ensures { λ r. ⌜ r ≡ factCode fact ⌝ }
 {
     match fact {
-        Standing::Known(value) => value as u16,
-        Standing::Unknown => 256,
+        Single::Known(value) => value as u16,
+        Single::Unknown => 256,
     }
 }

@@ -15,7 +15,7 @@ use Rattle.rules.specs.Digit.{digit, digit-small}
 use Rattle.knowing.specs.Standing.{Standing, known, unknown, Within, Sound}
 use Rattle.terms.specs.declared.Part.{Part}
 use Rattle.terms.specs.declared.Part.the-variants.{Pt6302, Pt6312, Pt6315}
-use Rattle.standing.specs.declared.Standing.the-variants.{Known}
+use Rattle.fact.specs.declared.Single.the-variants.{Known}
 use Rattle.key_codes.specs.View.{coded}
 use Rattle.lamps.specs.View.{shown, held, OfByte}
 use Rattle.lamps.specs.Lamp.{wide8, wide7, wide4, wide2, none-shown, code-shown}

@@ -5,13 +5,13 @@ use example_text::character;
 use example_text::hex;
 use example_text::spaced;
 use example_text::text;
-use standing::Standing;
+use fact::Single;
 
 // The code of a single fact.
-pub fn code(fact: Standing) -> u16 {
+pub fn code(fact: Single) -> u16 {
     match fact {
-        Standing::Known(n) => n as u16,
-        Standing::Unknown => 256,
+        Single::Known(n) => n as u16,
+        Single::Unknown => 256,
     }
 }
 

@@ -2,8 +2,8 @@
 use crate::facts::Characters;
 use crate::facts::Segments;
 use crate::facts::Told;
+use fact::Single;
 use panel::Panel;
-use standing::Standing;
 use terms::Address;
 
 pub fn panel_of(t: Told) -> Panel {
@@ -56,11 +56,11 @@ fn characters(t: Characters) -> character_knowledge::Knowledge {
     }
 }
 
-fn fact(code: u16) -> Standing {
+fn fact(code: u16) -> Single {
     if code < 256 {
-        Standing::Known((code % 256) as u8)
+        Single::Known((code % 256) as u8)
     } else {
-        Standing::Unknown
+        Single::Unknown
     }
 }
 

@@ -9,8 +9,8 @@ use lib.ListN.{length, length-set, getD, set}
 use lib.Seq.{getD-set-same, getD-set-other}
 use Rattle.knowing.specs.Standing as Of
 use Rattle.knowing.specs.Standing.{Standing}
-use Rattle.standing.specs.declared.Standing.{Standing as Single}
-use Rattle.standing.specs.View.{stands}
+use Rattle.fact.specs.declared.Single.{Single}
+use Rattle.fact.specs.View.{stands}
 use Rattle.lamps.specs.Whole.{whole}
 use Rattle.field.specs.declared.spelling.Five.{Five}
 use Rattle.field_cells.specs.declared.Row.{Row}

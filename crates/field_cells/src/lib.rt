@@ -1,10 +1,10 @@
 // The five cells of a temperature field as bytes, where all are known.
+use fact::Single;
 use field::Five;
-use standing::Standing;
 use terms::Address;
 ghost use mathlib.Core.Path.{_≡_};
 ghost use Prim.Native.Nat.{_≤_};
-ghost use Rattle.standing.specs.View.{stands};
+ghost use Rattle.fact.specs.View.{stands};
 ghost use Rattle.lamps.specs.Whole.{whole};
 ghost use Rattle.field.specs.declared.spelling.Five.{Five};
 ghost use Rattle.field.specs.Said.{Said};
@@ -26,8 +26,8 @@ pub fn five_at(dcram: [u16; 16], start: Address) -> Row
     while i < 5 {
         let cell = byte_in(dcram[start.0 as usize + i]);
         match cell {
-            Standing::Known(byte) => bytes[i] = byte,
-            Standing::Unknown => return Row::Unknown,
+            Single::Known(byte) => bytes[i] = byte,
+            Single::Unknown => return Row::Unknown,
         }
         i += 1;
     }
@@ -41,11 +41,11 @@ pub fn five_at(dcram: [u16; 16], start: Address) -> Row
 }
 
 // The byte that a cell is known to hold: a cell with any bit unknown counts as unknown (M-107).
-fn byte_in(code: u16) -> Standing
+fn byte_in(code: u16) -> Single
     ensures { λ r. ⌜ stands r ≡ whole 8 code ⌝ }
 {
     if code < 0xFF00 {
-        return Standing::Unknown;
+        return Single::Unknown;
     }
-    Standing::Known((code % 256) as u8)
+    Single::Known((code % 256) as u8)
 }

@@ -1,14 +1,14 @@
 // Whether a temperature field is known to be dark (paper 02, M-103).
 use character_knowledge::OFF;
 use character_knowledge::ON;
-use standing::Standing;
-use standing::is_known;
+use fact::Single;
+use fact::is_known;
 use terms::Address;
 ghost use mathlib.Core.Path.{_≡_};
-ghost use Rattle.standing.specs.View.{stands};
+ghost use Rattle.fact.specs.View.{stands};
 ghost use Rattle.field.specs.Field.{inUse, reachesPast, isDark};
 
-pub fn is_dark(lights: Standing, digits: Standing, start: Address) -> bool
+pub fn is_dark(lights: Single, digits: Single, start: Address) -> bool
     ensures { λ r. ⌜ r ≡ isDark (stands lights) (stands digits) (start .0) ⌝ }
 {
     if is_known(lights, OFF) {
@@ -21,12 +21,12 @@ pub fn is_dark(lights: Standing, digits: Standing, start: Address) -> bool
 }
 
 // The last cell stands on digit start plus 5.
-fn reaches_past(digits: Standing, start: Address) -> bool
+fn reaches_past(digits: Single, start: Address) -> bool
     ensures { λ r. ⌜ r ≡ reachesPast (stands digits) (start .0) ⌝ }
 {
     match digits {
-        Standing::Known(code) => in_use(code) < start.0 as usize + 5,
-        Standing::Unknown => false,
+        Single::Known(code) => in_use(code) < start.0 as usize + 5,
+        Single::Unknown => false,
     }
 }
 

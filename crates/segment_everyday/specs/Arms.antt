@@ -12,7 +12,7 @@ use Rattle.terms.specs.declared.Event.the-variants.{Falls, ByteIn, Rises, Gap}
 use Rattle.terms.specs.declared.Part.{Part}
 use Rattle.knowing.specs.Standing.{Standing, known, unknown}
 use Rattle.knowing.specs.Know.{know}
-use Rattle.standing.specs.View.{stands}
+use Rattle.fact.specs.View.{stands}
 use Rattle.lamps.specs.Lamp.{wide8, wide4}
 use Rattle.recording.specs.Record.{front}
 use Rattle.recording.specs.Steps.{rest}

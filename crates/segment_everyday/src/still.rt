@@ -1,8 +1,8 @@
 // A run of bytes at an unknown position that change nothing.
+use fact::Single;
 use segment::Family;
 use segment_knowledge::Control;
 use segment_known::unmoved;
-use standing::Standing;
 use terms::Place;
 ghost use Prim.Native.Nat.{_≤_};
 ghost use lib.ListN.{length};
@@ -14,7 +14,7 @@ pub fn still(family: Family, c: Control, cells: &[u16], bytes: &[u8], at: Place)
     ensures { λ r. ⌜ Stills family c (now (cells .entry)) (now (bytes .entry)) (at .0) r ⌝ }
 {
     let position = c.position;
-    let Standing::Unknown = position else {
+    let Single::Unknown = position else {
         return 0;
     };
     let from = at.0;

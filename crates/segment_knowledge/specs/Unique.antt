@@ -4,7 +4,7 @@ use native.Mathlib.Omega.{arith}
 use mathlib.Core.Path.{_≡_, refl, sym}
 use lib.ListN.{length}
 use Rattle.knowing.specs.Join.{not-known, known-one}
-use Rattle.standing.specs.View.{same-single}
+use Rattle.fact.specs.View.{same-single}
 use Rattle.key_codes.specs.Codes.{same-row}
 use Rattle.lamps.specs.Lamp.{one-code}
 use Rattle.lamps.specs.Row.{one-row}

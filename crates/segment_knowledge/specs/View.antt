@@ -7,7 +7,7 @@ use Rattle.knowing.specs.Standing as Of
 use Rattle.knowing.specs.Ways as Ways
 use Rattle.segment.specs.declared.Sizes.{Sizes}
 use Rattle.segment.specs.Fact.{Fact, same?, range, cellBits, ledBits, cell, address, dataMode, stepping, mode, dimming, display, led, key, switches, readCount, position}
-use Rattle.standing.specs.View.{stands}
+use Rattle.fact.specs.View.{stands}
 use Rattle.key_codes.specs.View.{coded}
 use Rattle.lamps.specs.View as Lamps
 use Rattle.lamps.specs.View.{shown}

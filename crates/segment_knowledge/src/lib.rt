@@ -1,6 +1,7 @@
 // What is known of a PT6312 or PT6315 panel, as a value.
 mod numbers;
 
+use fact::Single;
 pub use numbers::FIRST;
 pub use numbers::FIXED;
 pub use numbers::IDLE;
@@ -13,7 +14,6 @@ pub use numbers::READ_KEYS;
 pub use numbers::READ_SWITCHES;
 pub use numbers::WRITE_DISPLAY;
 pub use numbers::WRITE_LED;
-use standing::Standing;
 use terms::Address;
 ghost use mathlib.Core.Path.{_≡_};
 ghost use Prim.Native.Nat.{ℕ};
@@ -32,16 +32,16 @@ pub enum Pointing {
 // The LED is a code of `lamps`, bit by bit. A key byte that is 256 is unknown, and one below is known to be that.
 pub struct Control {
     pub address: Pointing,
-    pub data: Standing,
-    pub stepping: Standing,
-    pub mode: Standing,
-    pub dimming: Standing,
-    pub display: Standing,
+    pub data: Single,
+    pub stepping: Single,
+    pub mode: Single,
+    pub dimming: Single,
+    pub display: Single,
     pub led: u16,
     pub keys: [u16; 4],
-    pub switches: Standing,
-    pub count: Standing,
-    pub position: Standing,
+    pub switches: Single,
+    pub count: Single,
+    pub position: Single,
 }
 
 // Nothing is known.
@@ -50,16 +50,16 @@ pub fn no_control() -> Control
 {
     Control {
         address: Pointing::Unknown,
-        data: Standing::Unknown,
-        stepping: Standing::Unknown,
-        mode: Standing::Unknown,
-        dimming: Standing::Unknown,
-        display: Standing::Unknown,
+        data: Single::Unknown,
+        stepping: Single::Unknown,
+        mode: Single::Unknown,
+        dimming: Single::Unknown,
+        display: Single::Unknown,
         led: 0,
         keys: [256; 4],
-        switches: Standing::Unknown,
-        count: Standing::Unknown,
-        position: Standing::Unknown,
+        switches: Single::Unknown,
+        count: Single::Unknown,
+        position: Single::Unknown,
     }
 }
 
@@ -68,7 +68,7 @@ pub fn at(c: Control, place: u8) -> Control
     ensures { λ r. ⌜ ((cells : ℕ → ℕ → Of·Standing) → Learns (cview cells) same? position place c r) ⌝ }
 {
     Control {
-        position: Standing::Known(place),
+        position: Single::Known(place),
         ..c
     }
 }
@@ -78,7 +78,7 @@ pub fn with_data(c: Control, mode: u8) -> Control
     ensures { λ r. ⌜ ((cells : ℕ → ℕ → Of·Standing) → Learns (cview cells) same? dataMode mode c r) ⌝ }
 {
     Control {
-        data: Standing::Known(mode),
+        data: Single::Known(mode),
         ..c
     }
 }

@@ -14,9 +14,9 @@ use Rattle.knowing.specs.Know.{learn, join, common, know}
 use Rattle.knowing.specs.Join.{join-itself, join-late, join-not, join-nor}
 use Rattle.knowing.specs.Look.{know-same, idle-ways}
 use Rattle.knowing.specs.Steps.{step-all}
-use Rattle.standing.specs.View.{stands}
-use Rattle.standing.specs.declared.Standing.{Standing}
-use Rattle.standing.specs.declared.Standing.the-variants.{Known, Unknown}
+use Rattle.fact.specs.View.{stands}
+use Rattle.fact.specs.declared.Single.{Single}
+use Rattle.fact.specs.declared.Single.the-variants.{Known, Unknown}
 use Rattle.lamps.specs.View.{shown, met}
 use Rattle.lamps.specs.Lamp.{none-shown}
 use Rattle.changes.specs.declared.Change.{Change}
@@ -53,7 +53,7 @@ abbrev pub commandedAs : Family → Command → Control → (ℕ → ℕ → Of.
 commandedAs p m c cells = know same? (range (sizes p)) (commanded m) (learn same? position 1 (cview cells c))
 
 -- That of a mode command.
-pub moded-as : (p : Family) (c : Control) (m : ℕ) (shown : Standing) → m ≤ sizes p .top → stands shown ≡ displayIn (stands (c .mode)) m (stands (c .display))
+pub moded-as : (p : Family) (c : Control) (m : ℕ) (shown : Single) → m ≤ sizes p .top → stands shown ≡ displayIn (stands (c .mode)) m (stands (c .display))
     → (cells : ℕ → ℕ → Of.Standing) (f : Fact) → cview cells (inMode c m shown) f ≡ commandedAs p (Mode m) c cells f
 moded-as p c m shown small e cells f =
     mode-set (sizes p) (placed c (Known 1)) m shown small (top-room p) e cells f
@@ -75,7 +75,7 @@ in-order : (a b p q : Of.Standing) → join (join (join a b) q) p ≡ join (join
 in-order a b p q = join-late (join a b) q p ∙ ap (λ (s : Of.Standing). join s q) (join-late a b p) ∙ join-late (join a p) b q
 
 -- The step that does this to the cells and leaves these facts; keys, switches and position are those of c.
-abbrev pub made : Control → Change → Pointing → ℕ → Standing → Standing → Standing → Standing → Standing → Standing → Step
+abbrev pub made : Control → Change → Pointing → ℕ → Single → Single → Single → Single → Single → Single → Step
 made c x a l d i m o v n = record {
   control = record {
     address = a;
@@ -147,28 +147,28 @@ module _ (p : Family) (b : ℕ) (c : Control) (u : stands (c .position) ≡ unkn
         (λ cells. every _ (cells-left cells) (e ∙ ap (λ (s : Of.Standing). join s (known (pointer to))) at) (thrice _) (thrice _) (thrice _) (thrice _) (thrice _) (λ k. again _ _ _ (lit k)) (λ i. thrice _) (thrice _) (thrice _) (lost _))
 
     -- A data setting, with any data mode or with one.
-    pub perhaps-setting : (d : Data) (i : Stepping) (new step count : Standing) → Setting d i ≡ commandOf (sizes p) b → stands new ≡ join (stands (c .«data»)) (known (data-mode d))
+    pub perhaps-setting : (d : Data) (i : Stepping) (new step count : Single) → Setting d i ≡ commandOf (sizes p) b → stands new ≡ join (stands (c .«data»)) (known (data-mode d))
         → stands step ≡ join (stands (c .stepping)) (known (steps i)) → stands count ≡ join (stands (c .count)) (known 0) → Perhaps (made c x a l new step (c .mode) (c .dimming) (c .display) count)
     unfolding opened
     perhaps-setting d i new step count is e f g =
         perhaps-steps (Setting d i) (commandedAs p (Setting d i) c) is (λ cells f. refl) _ inside
         (λ cells. every _ (cells-left cells) (again _ _ _ at) (twice _ _ _ e) (twice _ _ _ f) (thrice _) (thrice _) (thrice _) (λ k. again _ _ _ (lit k)) (λ i. thrice _) (thrice _) (twice _ _ _ g) (lost _))
 
-    pub perhaps-any : (i : Stepping) (step count : Standing) → AnySetting i ≡ commandOf (sizes p) b → stands step ≡ join (stands (c .stepping)) (known (steps i)) → stands count ≡ join (stands (c .count)) (known 0)
+    pub perhaps-any : (i : Stepping) (step count : Single) → AnySetting i ≡ commandOf (sizes p) b → stands step ≡ join (stands (c .stepping)) (known (steps i)) → stands count ≡ join (stands (c .count)) (known 0)
         → Perhaps (made c x a l Unknown step (c .mode) (c .dimming) (c .display) count)
     unfolding opened
     perhaps-any i step count is f g =
         perhaps-steps (AnySetting i) (commandedAs p (AnySetting i) c) is (λ cells f. refl) _ inside
         (λ cells. every _ (cells-left cells) (again _ _ _ at) (join-nor _ _ refl) (twice _ _ _ f) (thrice _) (thrice _) (thrice _) (λ k. again _ _ _ (lit k)) (λ i. thrice _) (thrice _) (twice _ _ _ g) (lost _))
 
-    pub perhaps-control : (n : ℕ) (o : Display) (dim shows' : Standing) → Controls n o ≡ commandOf (sizes p) b → stands dim ≡ join (stands (c .dimming)) (known n)
+    pub perhaps-control : (n : ℕ) (o : Display) (dim shows' : Single) → Controls n o ≡ commandOf (sizes p) b → stands dim ≡ join (stands (c .dimming)) (known n)
         → stands shows' ≡ join (stands (c .display)) (known (shows o)) → Perhaps (made c x a l (c .«data») (c .stepping) (c .mode) dim shows' (c .count))
     unfolding opened
     perhaps-control n o dim shows' is e f =
         perhaps-steps (Controls n o) (commandedAs p (Controls n o) c) is (λ cells f. refl) _ inside
         (λ cells. every _ (cells-left cells) (again _ _ _ at) (thrice _) (thrice _) (thrice _) (twice _ _ _ e) (twice _ _ _ f) (λ k. again _ _ _ (lit k)) (λ i. thrice _) (thrice _) (thrice _) (lost _))
 
-    pub perhaps-mode : (n : ℕ) (off new shows' : Standing) → Mode n ≡ commandOf (sizes p) b → stands off ≡ displayIn (stands (c .mode)) n (stands (c .display)) → stands new ≡ join (stands (c .mode)) (known n)
+    pub perhaps-mode : (n : ℕ) (off new shows' : Single) → Mode n ≡ commandOf (sizes p) b → stands off ≡ displayIn (stands (c .mode)) n (stands (c .display)) → stands new ≡ join (stands (c .mode)) (known n)
         → stands shows' ≡ join (stands (c .display)) (stands off) → Perhaps (made c x a l (c .«data») (c .stepping) new (c .dimming) shows' (c .count))
     unfolding opened
     perhaps-mode n off new shows' is h e f =
@@ -176,7 +176,7 @@ module _ (p : Family) (b : ℕ) (c : Control) (u : stands (c .position) ≡ unkn
         (λ cells. every _ (cells-left cells) (again _ _ _ at) (thrice _) (thrice _) (twice _ _ _ e) (thrice _) (twice _ _ _ f) (λ k. again _ _ _ (lit k)) (λ i. thrice _) (thrice _) (thrice _) (lost _))
 
 -- Said of the facts in other words.
-pub perhaps-as : (P : Step → Type 0) (c : Control) {x x' : Change} {a a' : Pointing} {l l' : ℕ} {d d' i i' m m' o o' v v' n n' : Standing} → a ≡ a' → l ≡ l' → x ≡ x' → d ≡ d' → i ≡ i' → m ≡ m' → o ≡ o' → v ≡ v' → n ≡ n'
+pub perhaps-as : (P : Step → Type 0) (c : Control) {x x' : Change} {a a' : Pointing} {l l' : ℕ} {d d' i i' m m' o o' v v' n n' : Single} → a ≡ a' → l ≡ l' → x ≡ x' → d ≡ d' → i ≡ i' → m ≡ m' → o ≡ o' → v ≡ v' → n ≡ n'
     → P (made c x' a' l' d' i' m' o' v' n') → P (made c x a l d i m o v n)
 perhaps-as P c ea el ex ed ei em eo ev en h = rw (ea, el, ex, ed, ei, em, eo, ev, en) h
 
@@ -207,7 +207,7 @@ pub any-mode : (n : ℕ) (m v : Of.Standing) → m ≡ unknown → v ≡ join v 
 any-mode n m v u e = rw u (join-not _ _ refl, sym (ap (join v) (sym e) ∙ join-itself v))
 
 -- A fact of which that is known.
-said : Of.Standing → Standing
+said : Of.Standing → Single
 said (known v) = Known v
 said unknown = Unknown
 

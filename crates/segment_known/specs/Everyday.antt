@@ -13,7 +13,7 @@ use Rattle.knowing.specs.Know.{join, know}
 use Rattle.knowing.specs.Join.{join-itself, join-other, join-not}
 use Rattle.knowing.specs.Lost.{look-lost, know-leaves}
 use Rattle.rules.specs.Touch.{Leaves}
-use Rattle.standing.specs.View.{stands}
+use Rattle.fact.specs.View.{stands}
 use Rattle.lamps.specs.View.{shown, met, OfByte, Meets}
 use Rattle.changes.specs.declared.Change.{Change}
 use Rattle.changes.specs.declared.Change.the-variants.{Keep, Put, Meet}

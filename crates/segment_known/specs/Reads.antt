@@ -10,8 +10,8 @@ use Rattle.knowing.specs.Standing.{Standing, known, unknown}
 use Rattle.knowing.specs.Know.{learn, join, common, know}
 use Rattle.knowing.specs.Join.{join-both, join-known, common-all, common-each, same-standing, common-same, common-apart}
 use Rattle.knowing.specs.Look.{look-known, look-unknown}
-use Rattle.standing.specs.View.{stands}
-use Rattle.standing.specs.declared.Standing.{Standing as Single}
+use Rattle.fact.specs.View.{stands}
+use Rattle.fact.specs.declared.Single.{Single}
 use Rattle.segment.specs.declared.Sizes.{Sizes}
 use Rattle.segment.specs.declared.Family.{Family}
 use Rattle.segment.specs.Family.{sizes}

@@ -28,9 +28,9 @@ use Rattle.segment.specs.declared.Family.the-variants.{Pt6312, Pt6315}
 use Rattle.segment.specs.Fact.{Fact, same?, range, cell, address, dataMode, stepping, mode, dimming, display, led, key, switches, readCount, position}
 use Rattle.segment.specs.Laws.{every}
 use Rattle.segment.specs.Move.{sets, then, nothing, toMode}
-use Rattle.standing.specs.View.{stands}
-use Rattle.standing.specs.declared.Standing.{Standing}
-use Rattle.standing.specs.declared.Standing.the-variants.{Known}
+use Rattle.fact.specs.View.{stands}
+use Rattle.fact.specs.declared.Single.{Single}
+use Rattle.fact.specs.declared.Single.the-variants.{Known}
 use Rattle.segment_knowledge.specs.declared.Control.{Control as Beside}
 use Rattle.segment_knowledge.specs.View.{cview}
 use Rattle.segment_steps.specs.Step.{Keeps}
@@ -83,7 +83,7 @@ displayIn (Of.known old) m shown = whether (eqb old m) shown (Of.known (shows Of
 displayIn Of.unknown m shown = join shown (Of.known (shows Off))
 
 -- The same in mode m, with that known of the display, and ignoring.
-abbrev pub inMode : Beside → ℕ → Standing → Beside
+abbrev pub inMode : Beside → ℕ → Single → Beside
 inMode c m shown = record {
   address = c .address;
   «data» = c .«data»;
@@ -127,7 +127,7 @@ top-room Pt6312 = omega arith
 top-room Pt6315 = omega arith
 
 -- A mode command, whatever is known of the mode so far.
-pub mode-set : (s : Sizes) (c : Beside) (m : ℕ) (shown : Standing) → m ≤ s .top → 1 ≤ s .top → stands shown ≡ displayIn (stands (c .mode)) m (stands (c .display))
+pub mode-set : (s : Sizes) (c : Beside) (m : ℕ) (shown : Single) → m ≤ s .top → 1 ≤ s .top → stands shown ≡ displayIn (stands (c .mode)) m (stands (c .display))
     → Keeps s (look mode (toMode m)) c (inMode c m shown)
 mode-set s c m shown small room e cells = go (stands (c .mode)) refl e
   where

@@ -16,9 +16,9 @@ use Rattle.knowing.specs.Standing.{known, unknown}
 use Rattle.knowing.specs.Know.{lifted, learn, join, common, know}
 use Rattle.knowing.specs.Join.{join-swap, join-itself, join-other, common-same, common-two, common-apart}
 use Rattle.knowing.specs.Look.{look-unknown, know-same}
-use Rattle.standing.specs.View.{stands}
-use Rattle.standing.specs.declared.Standing.{Standing}
-use Rattle.standing.specs.declared.Standing.the-variants.{Known}
+use Rattle.fact.specs.View.{stands}
+use Rattle.fact.specs.declared.Single.{Single}
+use Rattle.fact.specs.declared.Single.the-variants.{Known}
 use Rattle.lamps.specs.View.{shown, told, met, OfByte, Puts, Meets}
 use Rattle.lamps.specs.Lamp.{wide4, byte-none-past, byte-met-code}
 use Rattle.changes.specs.declared.Change.{Change}
@@ -66,12 +66,12 @@ abbrev pub pointing : Control → Pointing → Control
 pointing c at = writing c at (c .led)
 
 -- What a data byte makes of the address and of the cells where it is stored, whatever else is known.
-abbrev pub Stores : Sizes → ℕ → Pointing → Standing → Stored → Type 0
+abbrev pub Stores : Sizes → ℕ → Pointing → Single → Stored → Type 0
 Stores s b at step r = (c : Control) → points (c .address) ≡ points at → stands (c .stepping) ≡ stands step
     → Steps s (look address (stored s b)) c (record { control = pointing c (r .address); change = r .change })
 
 -- The same at another position.
-abbrev pub placed : Control → Standing → Control
+abbrev pub placed : Control → Single → Control
 placed c q = record {
   address = c .address;
   «data» = c .«data»;
@@ -88,7 +88,7 @@ placed c q = record {
 
 -- What a data byte makes of the address, of the LED and of the cells, whatever is known of the position.
 abbrev pub Writes : Sizes → ℕ → Control → Written → Type 0
-Writes s b c r = (q : Standing) → Steps s (look dataMode (written s b)) (placed c q) (record { control = writing (placed c q) (r .address) (r .led); change = r .change })
+Writes s b c r = (q : Single) → Steps s (look dataMode (written s b)) (placed c q) (record { control = writing (placed c q) (r .address) (r .led); change = r .change })
 
 -- The address behind a byte that is stored in cell i, by the stepping.
 abbrev pub steppedOn : Sizes → ℕ → Of.Standing → Of.Standing

@@ -4,6 +4,7 @@ use crate::perhaps::perhaps_in;
 use crate::stored::stored_by;
 use changes::Change;
 use changes::loosened;
+use fact::Single;
 use lamps::FOUR;
 use lamps::code_of;
 use lamps::meet_code;
@@ -18,11 +19,10 @@ use segment_knowledge::WRITE_LED;
 use segment_steps::Step;
 use segment_steps::both_pointing;
 use segment_steps::kept;
-use standing::Standing;
 ghost use mathlib.Core.Path.{_≡_};
 ghost use Rattle.rules.specs.Rule.{look};
 ghost use Rattle.knowing.specs.Standing.{unknown};
-ghost use Rattle.standing.specs.View.{stands};
+ghost use Rattle.fact.specs.View.{stands};
 ghost use Rattle.segment.specs.Fact.{position};
 ghost use Rattle.segment.specs.Family.{sizes};
 ghost use Rattle.segment.specs.Move.{byteIn};
@@ -33,7 +33,7 @@ pub fn byte_in(family: Family, c: Control, byte: u8) -> Step
     ensures { λ r. ⌜ Steps (sizes family) (look position (byteIn (sizes family) byte)) c r ⌝ }
 {
     let position = c.position;
-    let Standing::Known(place) = position else {
+    let Single::Known(place) = position else {
         return perhaps_in(family, c, byte);
     };
     match place {
@@ -63,7 +63,7 @@ pub fn data_in(family: Family, c: Control, byte: u8) -> Written
     ensures { λ r. ⌜ Writes (sizes family) byte c r ⌝ }
 {
     let data = c.data;
-    let Standing::Known(mode) = data else {
+    let Single::Known(mode) = data else {
         return perhaps_written(family, c, byte);
     };
     let address = c.address;

@@ -1,4 +1,6 @@
 // What a first byte makes of a knowledge.
+use fact::Single;
+use fact::both_singles;
 use segment::Command;
 use segment::Data;
 use segment::Display;
@@ -21,8 +23,6 @@ use segment_knowledge::WRITE_LED;
 use segment_steps::Step;
 use segment_steps::forgotten;
 use segment_steps::kept;
-use standing::Standing;
-use standing::both_standing;
 ghost use mathlib.Core.Path.{_≡_};
 ghost use Prim.Native.Nat.{_≤_};
 ghost use Rattle.rules.specs.Rule.{gives, look};
@@ -34,7 +34,7 @@ ghost use Rattle.segment.specs.Value.{pointer, data-mode, steps, shows};
 ghost use Rattle.segment_knowledge.specs.View.{points};
 ghost use Rattle.segment_steps.specs.Step.{Steps, Keeps, Forgets};
 ghost use Rattle.knowing.specs.Standing.{known};
-ghost use Rattle.standing.specs.View.{stands};
+ghost use Rattle.fact.specs.View.{stands};
 ghost use Rattle.segment_known.specs.Ways.{displayIn};
 
 pub fn first_in(family: Family, mut c: Control, byte: u8) -> Step
@@ -61,10 +61,10 @@ pub fn data_set(family: Family, c: Control, data: Data, stepping: Stepping) -> C
     let mode = data_number(data);
     let step = step_number(stepping);
     Control {
-        data: Standing::Known(mode),
-        stepping: Standing::Known(step),
-        count: Standing::Known(0),
-        position: Standing::Known(OPEN),
+        data: Single::Known(mode),
+        stepping: Single::Known(step),
+        count: Single::Known(0),
+        position: Single::Known(OPEN),
         ..c
     }
 }
@@ -75,10 +75,10 @@ pub fn stepping_set(family: Family, c: Control, stepping: Stepping) -> Control
 {
     let step = step_number(stepping);
     Control {
-        data: Standing::Unknown,
-        stepping: Standing::Known(step),
-        count: Standing::Known(0),
-        position: Standing::Known(OPEN),
+        data: Single::Unknown,
+        stepping: Single::Known(step),
+        count: Single::Known(0),
+        position: Single::Known(OPEN),
         ..c
     }
 }
@@ -88,9 +88,9 @@ pub fn display_set(family: Family, c: Control, dimming: u8, display: Display) ->
 {
     let shown = display_number(display);
     Control {
-        dimming: Standing::Known(dimming),
-        display: Standing::Known(shown),
-        position: Standing::Known(IGNORING),
+        dimming: Single::Known(dimming),
+        display: Single::Known(shown),
+        position: Single::Known(IGNORING),
         ..c
     }
 }
@@ -101,7 +101,7 @@ pub fn address_set(family: Family, c: Control, to: Pointer) -> Control
     let address = known_pointing(to);
     Control {
         address,
-        position: Standing::Known(OPEN),
+        position: Single::Known(OPEN),
         ..c
     }
 }
@@ -153,26 +153,26 @@ pub fn to_mode(family: Family, c: Control, code: u8) -> Control
     let shown = c.display;
     let display = display_in(old, code, shown);
     Control {
-        mode: Standing::Known(code),
+        mode: Single::Known(code),
         display,
-        position: Standing::Known(IGNORING),
+        position: Single::Known(IGNORING),
         ..c
     }
 }
 
 // What is known of the display when a mode command has come: another mode turns it off.
-pub fn display_in(old: Standing, code: u8, shown: Standing) -> Standing
+pub fn display_in(old: Single, code: u8, shown: Single) -> Single
     ensures { λ r. ⌜ stands r ≡ displayIn (stands old) code (stands shown) ⌝ }
 {
     match old {
-        Standing::Known(mode) => {
+        Single::Known(mode) => {
             if mode == code {
                 shown
             } else {
-                Standing::Known(OFF)
+                Single::Known(OFF)
             }
         }
-        Standing::Unknown => both_standing(shown, Standing::Known(OFF)),
+        Single::Unknown => both_singles(shown, Single::Known(OFF)),
     }
 }
 
@@ -181,14 +181,14 @@ pub fn in_test(family: Family, c: Control) -> Control
 {
     Control {
         address: Pointing::Unknown,
-        data: Standing::Unknown,
-        stepping: Standing::Unknown,
-        mode: Standing::Unknown,
-        dimming: Standing::Unknown,
-        display: Standing::Unknown,
+        data: Single::Unknown,
+        stepping: Single::Unknown,
+        mode: Single::Unknown,
+        dimming: Single::Unknown,
+        display: Single::Unknown,
         led: 0,
-        count: Standing::Unknown,
-        position: Standing::Known(IGNORING),
+        count: Single::Unknown,
+        position: Single::Known(IGNORING),
         ..c
     }
 }

@@ -1,5 +1,7 @@
 // The events of every day, each in a function small enough to stand in the loop over the records: the strobe, and bytes whose way is known.
 use changes::meet_run;
+use fact::Single;
+use fact::is_known;
 use lamps::EIGHT;
 use lamps::FOUR;
 use lamps::meet_code;
@@ -14,15 +16,13 @@ use segment_knowledge::Pointing;
 use segment_knowledge::WRITE_DISPLAY;
 use segment_knowledge::WRITE_LED;
 use segment_knowledge::at;
-use standing::Standing;
-use standing::is_known;
 use terms::Address;
 ghost use mathlib.Core.Path.{_≡_};
 ghost use mathlib.Core.Bool.{Bool, true};
 ghost use Prim.Native.Nat.{ℕ, _+_, _≤_};
 ghost use lib.ListN.{length};
 ghost use Rattle.knowing.specs.Standing.{known};
-ghost use Rattle.standing.specs.View.{stands};
+ghost use Rattle.fact.specs.View.{stands};
 ghost use Rattle.changes.specs.Change.{Met};
 ghost use Rattle.terms.specs.declared.Event.the-variants.{Falls, Rises};
 ghost use Rattle.segment.specs.declared.Sizes.{Sizes};
@@ -73,12 +73,12 @@ pub fn goes_to(family: Family, c: Control) -> Target
 {
     let position = c.position;
     match position {
-        Standing::Known(place) => match place {
+        Single::Known(place) => match place {
             OPEN => goes_open(family, c),
             FIRST => Target::Elsewhere,
             _ => Target::Nowhere,
         },
-        Standing::Unknown => Target::Elsewhere,
+        Single::Unknown => Target::Elsewhere,
     }
 }
 
@@ -88,7 +88,7 @@ fn goes_open(family: Family, c: Control) -> Target
 {
     let data = c.data;
     match data {
-        Standing::Known(mode) => match mode {
+        Single::Known(mode) => match mode {
             WRITE_DISPLAY => {
                 let address = c.address;
                 let stepping = c.stepping;
@@ -97,7 +97,7 @@ fn goes_open(family: Family, c: Control) -> Target
             WRITE_LED => Target::Led,
             _ => Target::Nowhere,
         },
-        Standing::Unknown => {
+        Single::Unknown => {
             let address = c.address;
             perhaps_at(family, address)
         }
@@ -190,11 +190,11 @@ pub fn perhaps_stepped(c: Control, cell: Address) -> Control
 {
     let stepping = c.stepping;
     let address = match stepping {
-        Standing::Known(step) => match step {
+        Single::Known(step) => match step {
             INCREMENT => Pointing::Unknown,
             _ => Pointing::At(cell),
         },
-        Standing::Unknown => Pointing::Unknown,
+        Single::Unknown => Pointing::Unknown,
     };
     Control { address, ..c }
 }
@@ -204,31 +204,31 @@ pub fn nothing_left(c: Control) -> bool
     ensures { λ r. ⌜ (r ≡ true → Lost c) ⌝ }
 {
     let position = c.position;
-    let Standing::Unknown = position else {
+    let Single::Unknown = position else {
         return false;
     };
     let data = c.data;
-    let Standing::Unknown = data else {
+    let Single::Unknown = data else {
         return false;
     };
     let stepping = c.stepping;
-    let Standing::Unknown = stepping else {
+    let Single::Unknown = stepping else {
         return false;
     };
     let mode = c.mode;
-    let Standing::Unknown = mode else {
+    let Single::Unknown = mode else {
         return false;
     };
     let dimming = c.dimming;
-    let Standing::Unknown = dimming else {
+    let Single::Unknown = dimming else {
         return false;
     };
     let display = c.display;
-    let Standing::Unknown = display else {
+    let Single::Unknown = display else {
         return false;
     };
     let count = c.count;
-    let Standing::Unknown = count else {
+    let Single::Unknown = count else {
         return false;
     };
     let address = c.address;

@@ -1,7 +1,7 @@
 // What latched keys and switches make of a knowledge.
+use fact::Single;
 use segment::Family;
 use segment_knowledge::Control;
-use standing::Standing;
 ghost use Rattle.rules.specs.Rule.{gives};
 ghost use Rattle.segment.specs.Family.{sizes};
 ghost use Rattle.segment.specs.Move.{keysLatched, switchesLatched};
@@ -25,7 +25,7 @@ pub fn switches_latched(family: Family, c: Control, value: u8) -> Control
 {
     match family {
         Family::Pt6312 => Control {
-            switches: Standing::Known(value % 16),
+            switches: Single::Known(value % 16),
             ..c
         },
         Family::Pt6315 => c,

@@ -6,6 +6,7 @@ use crate::latches::keys_latched;
 use crate::latches::switches_latched;
 use crate::reads::byte_out;
 use applying::apply;
+use fact::Single;
 use lamps::EIGHT;
 use lamps::FOUR;
 use lamps::put_byte;
@@ -21,7 +22,6 @@ use segment_steps::Step;
 use segment_steps::forgotten;
 use segment_steps::kept;
 use segment_steps::lost;
-use standing::Standing;
 use terms::Address;
 use terms::Event;
 ghost use lib.ListN.{length};
@@ -65,16 +65,16 @@ fn at_power(family: Family, c: Control) -> Control
     let led = put_byte(FOUR, old, sizes.led);
     Control {
         address: Pointing::At(Address(0)),
-        data: Standing::Known(WRITE_DISPLAY),
-        stepping: Standing::Known(INCREMENT),
-        mode: Standing::Known(sizes.top),
-        dimming: Standing::Known(0),
-        display: Standing::Known(OFF),
+        data: Single::Known(WRITE_DISPLAY),
+        stepping: Single::Known(INCREMENT),
+        mode: Single::Known(sizes.top),
+        dimming: Single::Known(0),
+        display: Single::Known(OFF),
         led,
         keys: [256; 4],
-        switches: Standing::Unknown,
-        count: Standing::Known(0),
-        position: Standing::Known(IDLE),
+        switches: Single::Unknown,
+        count: Single::Known(0),
+        position: Single::Known(IDLE),
     }
 }
 

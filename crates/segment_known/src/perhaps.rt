@@ -8,6 +8,8 @@ use crate::commanded::step_number;
 use changes::Change;
 use changes::all_agree;
 use changes::loosened;
+use fact::Single;
+use fact::both_singles;
 use lamps::FOUR;
 use lamps::both_lamps;
 use lamps::put_byte;
@@ -21,14 +23,12 @@ use segment_knowledge::WRITE_DISPLAY;
 use segment_knowledge::WRITE_LED;
 use segment_steps::Step;
 use segment_steps::both_pointing;
-use standing::Standing;
-use standing::both_standing;
 ghost use mathlib.Core.Path.{_≡_};
 ghost use mathlib.Core.Bool.{true};
 ghost use Rattle.rules.specs.Rule.{look};
 ghost use Rattle.knowing.specs.Standing.{known, unknown};
 ghost use Rattle.knowing.specs.Know.{join};
-ghost use Rattle.standing.specs.View.{stands};
+ghost use Rattle.fact.specs.View.{stands};
 ghost use Rattle.segment.specs.Fact.{position};
 ghost use Rattle.segment.specs.Family.{sizes};
 ghost use Rattle.segment.specs.Move.{byteIn};
@@ -56,18 +56,18 @@ pub fn perhaps_in(family: Family, c: Control, byte: u8) -> Step
     match command {
         Command::Mode(code) => {
             let off = display_in(mode, code, display);
-            display = both_standing(display, off);
+            display = both_singles(display, off);
             mode = perhaps(mode, code);
         }
         Command::Test => {
             address = Pointing::Unknown;
-            data = Standing::Unknown;
-            stepping = Standing::Unknown;
-            mode = Standing::Unknown;
-            dimming = Standing::Unknown;
-            display = Standing::Unknown;
+            data = Single::Unknown;
+            stepping = Single::Unknown;
+            mode = Single::Unknown;
+            dimming = Single::Unknown;
+            display = Single::Unknown;
             led = 0;
-            count = Standing::Unknown;
+            count = Single::Unknown;
             change = Change::Forget;
         }
         Command::Setting(kind, step) => {
@@ -76,7 +76,7 @@ pub fn perhaps_in(family: Family, c: Control, byte: u8) -> Step
             count = perhaps(count, 0);
         }
         Command::AnySetting(step) => {
-            data = Standing::Unknown;
+            data = Single::Unknown;
             stepping = perhaps(stepping, step_number(step));
             count = perhaps(count, 0);
         }
@@ -103,10 +103,10 @@ pub fn perhaps_in(family: Family, c: Control, byte: u8) -> Step
 }
 
 // The fact may have become v.
-fn perhaps(s: Standing, v: u8) -> Standing
+fn perhaps(s: Single, v: u8) -> Single
     ensures { λ r. ⌜ stands r ≡ join (stands s) (known v) ⌝ }
 {
-    both_standing(s, Standing::Known(v))
+    both_singles(s, Single::Known(v))
 }
 
 // At an unknown position this byte changes nothing that is known: as data it leaves all as it is, and what it would set as a command is unknown or has that value already. A data setting, and what may
@@ -150,7 +150,7 @@ fn quiet(family: Family, c: Control, cells: &[u16], byte: u8) -> bool
     ensures { λ r. ⌜ (r ≡ true → Quiet family byte c (now (cells .entry))) ⌝ }
 {
     let data = c.data;
-    let Standing::Known(to) = data else {
+    let Single::Known(to) = data else {
         return false;
     };
     match to {
@@ -170,21 +170,21 @@ fn quiet(family: Family, c: Control, cells: &[u16], byte: u8) -> bool
 }
 
 // A mode command changes nothing: the mode is that one, or the mode is unknown and so is the display, or it is off.
-fn stays_moded(mode: Standing, code: u8, display: Standing) -> bool
+fn stays_moded(mode: Single, code: u8, display: Single) -> bool
     ensures { λ r. ⌜ (r ≡ true → StaysModed (stands mode) code (stands display)) ⌝ }
 {
     match mode {
-        Standing::Known(old) => old == code,
-        Standing::Unknown => stays(display, OFF),
+        Single::Known(old) => old == code,
+        Single::Unknown => stays(display, OFF),
     }
 }
 
 // The fact is unknown, or it is v.
-fn stays(s: Standing, v: u8) -> bool
+fn stays(s: Single, v: u8) -> bool
     ensures { λ r. ⌜ (r ≡ true → stands s ≡ join (stands s) (known v)) ⌝ }
 {
     match s {
-        Standing::Known(w) => w == v,
-        Standing::Unknown => true,
+        Single::Known(w) => w == v,
+        Single::Unknown => true,
     }
 }

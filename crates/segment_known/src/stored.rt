@@ -1,16 +1,16 @@
 // What a data byte does that goes to the address.
 use crate::commanded::known_pointing;
 use changes::Change;
+use fact::Single;
 use segment::Family;
 use segment::behind;
 use segment_knowledge::INCREMENT;
 use segment_knowledge::Pointing;
-use standing::Standing;
 use terms::Address;
 ghost use mathlib.Core.Path.{_≡_};
 ghost use Prim.Native.Nat.{_<_};
 ghost use Rattle.segment.specs.Family.{sizes};
-ghost use Rattle.standing.specs.View.{stands};
+ghost use Rattle.fact.specs.View.{stands};
 ghost use Rattle.segment_knowledge.specs.View.{points};
 ghost use Rattle.segment_known.specs.Writes.{steppedOn, Stores};
 
@@ -20,7 +20,7 @@ pub struct Stored {
     pub change: Change,
 }
 
-pub fn stored_by(family: Family, address: Pointing, stepping: Standing, byte: u8) -> Stored
+pub fn stored_by(family: Family, address: Pointing, stepping: Single, byte: u8) -> Stored
     ensures { λ r. ⌜ Stores (sizes family) byte address stepping r ⌝ }
 {
     match address {
@@ -53,15 +53,15 @@ pub fn stored_by(family: Family, address: Pointing, stepping: Standing, byte: u8
 }
 
 // The address behind a byte that is stored in a cell: where the stepping is unknown, it may have stepped on or not.
-fn stepped(family: Family, cell: Address, stepping: Standing) -> Pointing
+fn stepped(family: Family, cell: Address, stepping: Single) -> Pointing
     requires { ⌜ cell .0 < sizes family .cells ⌝ }
     ensures { λ r. ⌜ points r ≡ steppedOn (sizes family) (cell .0) (stands stepping) ⌝ }
 {
     match stepping {
-        Standing::Known(step) => match step {
+        Single::Known(step) => match step {
             INCREMENT => known_pointing(behind(family, cell)),
             _ => Pointing::At(cell),
         },
-        Standing::Unknown => Pointing::Unknown,
+        Single::Unknown => Pointing::Unknown,
     }
 }

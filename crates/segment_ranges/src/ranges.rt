@@ -1,4 +1,6 @@
 // Number 2: whether every known value is in its fact's range, and every bit that is not known is stored as 0. What the part lacks is never tested.
+use fact::Single;
+use fact::within;
 use key_codes::all_within;
 use lamp_tests::all_sound;
 use lamp_tests::lamps_sound;
@@ -8,14 +10,12 @@ use segment::Family;
 use segment_knowledge::Control;
 use segment_knowledge::Knowledge;
 use segment_knowledge::Pointing;
-use standing::Standing;
-use standing::within;
 ghost use Prim.Native.Nat.{suc};
 ghost use Rattle.knowing.specs.Standing.{Within, Sound, unknown};
 ghost use Rattle.segment.specs.Fact.{range};
 ghost use Rattle.segment.specs.Family.{sizes};
 ghost use Rattle.rules.specs.Tests.{Tests};
-ghost use Rattle.standing.specs.View.{stands};
+ghost use Rattle.fact.specs.View.{stands};
 ghost use Rattle.key_codes.specs.Codes.{RowSound, Small};
 ghost use Rattle.lamps.specs.Row.{LampsSound};
 ghost use Rattle.segment_knowledge.specs.View.{kview, cview, points};
@@ -64,9 +64,9 @@ fn singles_sound(family: Family, c: Control) -> bool
 fn own_sound(
     family: Family,
     address: Pointing,
-    data: Standing,
-    mode: Standing,
-    switches: Standing,
+    data: Single,
+    mode: Single,
+    switches: Single,
 ) -> bool
     ensures { λ r. ⌜ Tests r (OwnSound (sizes family) (points address) (stands «data») (stands mode) (stands switches)) ⌝ }
 {

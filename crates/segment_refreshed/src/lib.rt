@@ -1,4 +1,5 @@
 // What is known of a PT6312 or PT6315 panel when the bytes of an update have gone out, told from what the update sent, with no replay of these bytes.
+use fact::Single;
 use lamps::EIGHT;
 use lamps::put_byte;
 use segment::Family;
@@ -8,7 +9,6 @@ use segment_knowledge::INCREMENT;
 use segment_knowledge::Knowledge;
 use segment_knowledge::Pointing;
 use segment_knowledge::WRITE_DISPLAY;
-use standing::Standing;
 use terms::Address;
 use updating::reads_behind;
 ghost use mathlib.Core.Path.{_≡_};
@@ -41,10 +41,10 @@ pub fn refreshed(
         cells,
         control: Control {
             address: Pointing::At(behind),
-            data: Standing::Known(WRITE_DISPLAY),
-            stepping: Standing::Known(INCREMENT),
+            data: Single::Known(WRITE_DISPLAY),
+            stepping: Single::Known(INCREMENT),
             count,
-            position: Standing::Known(IDLE),
+            position: Single::Known(IDLE),
             ..control
         },
     }

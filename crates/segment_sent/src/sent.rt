@@ -1,4 +1,5 @@
 // The byte to be sent next, by what is known of the position, the data mode and the read count.
+use fact::Single;
 use segment::Family;
 use segment_knowledge::Control;
 use segment_knowledge::OPEN;
@@ -8,7 +9,6 @@ use segment_knowledge::at;
 use segment_knowledge::with_data;
 use sendings::Sending;
 use sendings::both_sent;
-use standing::Standing;
 ghost use mathlib.Core.Path.{_≡_};
 ghost use Prim.Native.Nat.{_<_};
 ghost use lib.ListN.{getD};
@@ -28,8 +28,8 @@ pub fn sent_next(family: Family, c: Control) -> Sending
 {
     let position = c.position;
     match position {
-        Standing::Known(place) => sent_at(family, c, place),
-        Standing::Unknown => both_sent(Sending::NotDriven, open_sent(family, at(c, OPEN))),
+        Single::Known(place) => sent_at(family, c, place),
+        Single::Unknown => both_sent(Sending::NotDriven, open_sent(family, at(c, OPEN))),
     }
 }
 
@@ -49,8 +49,8 @@ fn open_sent(family: Family, c: Control) -> Sending
 {
     let data = c.data;
     match data {
-        Standing::Known(mode) => sent_in(family, c, mode),
-        Standing::Unknown => sent_in_any(family, c),
+        Single::Known(mode) => sent_in(family, c, mode),
+        Single::Unknown => sent_in_any(family, c),
     }
 }
 
@@ -85,8 +85,8 @@ fn keys_sent(family: Family, c: Control) -> Sending
 {
     let count = c.count;
     match count {
-        Standing::Known(n) => key_sent(family, c, n),
-        Standing::Unknown => Sending::Unknown,
+        Single::Known(n) => key_sent(family, c, n),
+        Single::Unknown => Sending::Unknown,
     }
 }
 
@@ -123,8 +123,8 @@ fn switches_sent(family: Family, c: Control) -> Sending
 {
     let count = c.count;
     match count {
-        Standing::Known(n) => switches_at(family, c, n),
-        Standing::Unknown => Sending::Unknown,
+        Single::Known(n) => switches_at(family, c, n),
+        Single::Unknown => Sending::Unknown,
     }
 }
 
@@ -134,8 +134,8 @@ fn switches_at(family: Family, c: Control, n: u8) -> Sending
     let value = c.switches;
     if n == 0 {
         match value {
-            Standing::Known(v) => Sending::Byte(v),
-            Standing::Unknown => Sending::Unknown,
+            Single::Known(v) => Sending::Byte(v),
+            Single::Unknown => Sending::Unknown,
         }
     } else {
         Sending::NotDriven

@@ -4,7 +4,7 @@ use Prim.Native.Nat.{ℕ}
 use mathlib.Core.Path.{_≡_, subst}
 use lib.ListN.{getD}
 use Rattle.knowing.specs.Standing.{Sound}
-use Rattle.standing.specs.View.{stands}
+use Rattle.fact.specs.View.{stands}
 use Rattle.lamps.specs.Whole.{whole-shown}
 use Rattle.terms.specs.declared.PartRead.{PartRead}
 use Rattle.character.specs.Fact.{range, dcram}

@@ -1,17 +1,17 @@
 // What an update comes to, whether the setting that it needs is known, and what that makes of the reading count. What it sends, and what that does, stands in
 // specs/.
+use fact::Single;
+use fact::is_known;
 use panel::Panel;
 use segment_knowledge::Control;
 use segment_knowledge::INCREMENT;
 use segment_knowledge::WRITE_DISPLAY;
-use standing::Standing;
-use standing::is_known;
 use terms::Place;
 ghost use mathlib.Core.Path.{_≡_};
 ghost use Prim.Native.Nat.{ℕ};
 ghost use Rattle.rules.specs.Choice.{whether};
 ghost use Rattle.knowing.specs.Standing.{Standing as Of·Standing, known};
-ghost use Rattle.standing.specs.View.{stands};
+ghost use Rattle.fact.specs.View.{stands};
 ghost use Rattle.segment_knowledge.specs.View.{cview};
 ghost use Rattle.updating.specs.Update.{isSet};
 
@@ -42,8 +42,8 @@ pub fn is_set(control: Control) -> bool
 }
 
 // The reading count behind an update: 40H, which goes first where the setting was not known, sets it back.
-pub fn reads_behind(set: bool, count: Standing) -> Standing
+pub fn reads_behind(set: bool, count: Single) -> Single
     ensures { λ r. ⌜ stands r ≡ whether set (stands count) (known 0) ⌝ }
 {
-    if set { count } else { Standing::Known(0) }
+    if set { count } else { Single::Known(0) }
 }

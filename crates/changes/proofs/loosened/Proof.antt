@@ -1,4 +1,4 @@
--- `changes::change::loosened` meets its contract: each kind of change has its own answer.
+-- `changes::loosened` meets its contract: each kind of change has its own answer.
 -- Assumes nothing.
 use mathlib.Core.Path.{sym, ap}
 use Rattle.changes.specs.Change.{loose}

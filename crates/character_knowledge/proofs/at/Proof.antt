@@ -1,4 +1,4 @@
--- `character_knowledge::control::at` meets its contract: fact by fact, only the position changes.
+-- `character_knowledge::at` meets its contract: fact by fact, only the position changes.
 -- Assumes nothing.
 use Rattle.character.specs.Laws.{every}
 use mathlib.Core.Path.{refl}

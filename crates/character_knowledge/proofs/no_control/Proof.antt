@@ -1,4 +1,4 @@
--- `character_knowledge::control::no_control` meets its contract: no single fact is known.
+-- `character_knowledge::no_control` meets its contract: no single fact is known.
 -- Assumes nothing.
 use Rattle.lamps.specs.Lamp.{none-shown}
 use Rattle.character.specs.Laws.{every}

@@ -1,4 +1,4 @@
--- `character_knowledge::knowledge::nothing_known` meets its contract: no cell is known, and nothing beside them.
+-- `character_knowledge::nothing_known` meets its contract: no cell is known, and nothing beside them.
 -- Assumes nothing.
 use Rattle.lamps.specs.Row.{none-held}
 use Rattle.character.specs.Fact.{dcramAt, cgramAt, adramAt, column, port, duty, digits, lights, position}

@@ -1,4 +1,4 @@
--- `character_steps::steps::lost` meets its contract: nothing is known of the memory, and nothing beside it.
+-- `character_steps::lost` meets its contract: nothing is known of the memory, and nothing beside it.
 -- Assumes nothing.
 use Rattle.character_steps.specs.Steps.{forgotten-steps}
 use borrow.Author.Needs.{needs}

@@ -4,7 +4,7 @@ use Prim.Native.Nat.{ℕ, _+_, _-_, _≤_}
 use native.Mathlib.Omega.{arith}
 use mathlib.Core.Path.{_≡_, refl, sym, subst}
 use borrow.Author.Needs.{needs}
-use Rattle.standing.specs.declared.Standing.the-variants.{Known, Unknown}
+use Rattle.fact.specs.declared.Single.the-variants.{Known, Unknown}
 use Rattle.field_cells.specs.Cells.{byteAt, Read, no-cell, cell-is, read-none, read-more, read-all}
 use Rattle.field_cells.proofs.five_at.Statement.{statement}
 use Rattle.field_cells.proofs.five_at.Tie as tie

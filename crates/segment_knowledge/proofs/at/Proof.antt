@@ -1,4 +1,4 @@
--- `segment_knowledge::control::at` meets its contract: fact by fact, only the position changes.
+-- `segment_knowledge::at` meets its contract: fact by fact, only the position changes.
 -- Assumes nothing.
 use mathlib.Core.Path.{refl}
 use Rattle.segment.specs.Laws.{every}

@@ -1,4 +1,4 @@
--- `segment_knowledge::control::no_control` meets its contract: every key byte's code is 256, and no single fact is known.
+-- `segment_knowledge::no_control` meets its contract: every key byte's code is 256, and no single fact is known.
 -- Assumes nothing.
 use mathlib.Core.Path.{refl, ap}
 use Rattle.segment.specs.Laws.{every}

@@ -1,4 +1,4 @@
--- `segment_knowledge::knowledge::nothing_known` meets its contract: no cell is known, and nothing beside them.
+-- `segment_knowledge::nothing_known` meets its contract: no cell is known, and nothing beside them.
 -- Assumes nothing.
 use Rattle.segment.specs.Fact.{address, dataMode, stepping, mode, dimming, display, led, key, switches, readCount, position}
 use borrow.Author.Needs.{needs}

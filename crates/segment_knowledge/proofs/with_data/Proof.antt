@@ -1,4 +1,4 @@
--- `segment_knowledge::control::with_data` meets its contract: fact by fact, only the data mode changes.
+-- `segment_knowledge::with_data` meets its contract: fact by fact, only the data mode changes.
 -- Assumes nothing.
 use mathlib.Core.Path.{refl}
 use Rattle.segment.specs.Laws.{every}

@@ -1,4 +1,4 @@
--- `segment_steps::steps::lost` meets its contract: nothing is known of the memory, and nothing beside it.
+-- `segment_steps::lost` meets its contract: nothing is known of the memory, and nothing beside it.
 -- Assumes nothing.
 use Rattle.segment_steps.specs.StepLaws.{forgotten-steps}
 use borrow.Author.Needs.{needs}

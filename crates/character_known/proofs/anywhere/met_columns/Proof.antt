@@ -1,7 +1,7 @@
 -- `character_known::anywhere::met_columns` meets its contract: the four cases of a character and a column, each known or not.
 -- Assumes nothing.
 use mathlib.Core.Path.{sym, ap₂}
-use Rattle.standing.specs.declared.Standing.{Standing}
+use Rattle.fact.specs.declared.Single.{Single}
 use Rattle.character_knowledge.specs.declared.Pointing.{Pointing}
 use Rattle.character_known.specs.Weakened.{metColumn}
 use borrow.Author.Needs.{needs}
@@ -33,16 +33,16 @@ enum-told-3 : tie.Need-enum-told-3
 enum-told-3 c = search needs
 
 returns : tie.Need-returns
-returns c = sym (ap₂ (λ (p : Pointing) (s : Standing). metColumn p s (c .before .before .before .before .before .before .before .args .byte)) (c .before .before .before .before .before .to .given .1) (c .before .column .given .1))
+returns c = sym (ap₂ (λ (p : Pointing) (s : Single). metColumn p s (c .before .before .before .before .before .before .before .args .byte)) (c .before .before .before .before .before .to .given .1) (c .before .column .given .1))
 
 returns-2 : tie.Need-returns-2
-returns-2 c = sym (ap₂ (λ (p : Pointing) (s : Standing). metColumn p s (c .before .before .before .before .before .before .args .byte)) (c .before .before .before .before .to .given .1) (c .enum-told .given .1))
+returns-2 c = sym (ap₂ (λ (p : Pointing) (s : Single). metColumn p s (c .before .before .before .before .before .before .args .byte)) (c .before .before .before .before .to .given .1) (c .enum-told .given .1))
 
 returns-3 : tie.Need-returns-3
-returns-3 c = sym (ap₂ (λ (p : Pointing) (s : Standing). metColumn p s (c .before .before .before .before .before .args .byte)) (c .before .before .before .enum-told2 .given .1) (c .before .column2 .given .1))
+returns-3 c = sym (ap₂ (λ (p : Pointing) (s : Single). metColumn p s (c .before .before .before .before .before .args .byte)) (c .before .before .before .enum-told2 .given .1) (c .before .column2 .given .1))
 
 returns-4 : tie.Need-returns-4
-returns-4 c = sym (ap₂ (λ (p : Pointing) (s : Standing). metColumn p s (c .before .before .before .before .args .byte)) (c .before .before .enum-told2 .given .1) (c .enum-told3 .given .1))
+returns-4 c = sym (ap₂ (λ (p : Pointing) (s : Single). metColumn p s (c .before .before .before .before .args .byte)) (c .before .before .enum-told2 .given .1) (c .enum-told3 .given .1))
 
 pub met-columns-spec : {M : Type 1} → statement M
 met-columns-spec =

@@ -7,7 +7,7 @@ use Rattle.rules.specs.Choice.{whether}
 use Rattle.rules.specs.Change.{setBits}
 use Rattle.knowing.specs.Standing.{known}
 use Rattle.knowing.specs.Know.{join}
-use Rattle.standing.specs.View.{stands}
+use Rattle.fact.specs.View.{stands}
 use Rattle.lamps.specs.Lamp.{wide2}
 use Rattle.character.specs.declared.command.Command.{Command}
 use Rattle.character.specs.Command.{Defined}
@@ -59,14 +59,14 @@ meet-code-requires c κs = search needs
 enum-known-command-3 : tie.Need-enum-known-command-3
 enum-known-command-3 c = search needs
 
-both-standing-requires : tie.Need-both-standing-requires
-both-standing-requires c κs = search needs
+both-singles-requires : tie.Need-both-singles-requires
+both-singles-requires c κs = search needs
 
 enum-known-command-4 : tie.Need-enum-known-command-4
 enum-known-command-4 c = search needs
 
-both-standing-requires-2 : tie.Need-both-standing-requires-2
-both-standing-requires-2 c κs = search needs
+both-singles-requires-2 : tie.Need-both-singles-requires-2
+both-singles-requires-2 c κs = search needs
 
 enum-known-command-5 : tie.Need-enum-known-command-5
 enum-known-command-5 c = search needs
@@ -74,8 +74,8 @@ enum-known-command-5 c = search needs
 lights-number-requires : tie.Need-lights-number-requires
 lights-number-requires c κs = search needs
 
-both-standing-requires-3 : tie.Need-both-standing-requires-3
-both-standing-requires-3 c κs = search needs
+both-singles-requires-3 : tie.Need-both-singles-requires-3
+both-singles-requires-3 c κs = search needs
 
 enum-told-2 : tie.Need-enum-told-2
 enum-told-2 c = search needs
@@ -97,13 +97,13 @@ unfolding setBits
 returns-2 c = as-said (c .before .before .before .command2 .given .1) (λ m. every _ (λ i k. same _) (λ i k. same _) (λ i k. same _) refl (still (c .before .before .before .before .before)) refl refl (port-met (c .before .before .before .before .before .before .before .args .c) _ _ _ (c .before .code-of .ensures 2 wide2) (c .meet-code .ensures) m) (same _) (same _) (same _) refl)
 
 returns-3 : tie.Need-returns-3
-returns-3 c = as-said (c .before .before .command3 .given .1) (λ m. every _ (λ i k. same _) (λ i k. same _) (λ i k. same _) refl (still (c .before .before .before .before)) refl refl (λ k. same _) (c .both-standing .ensures) (same _) (same _) refl)
+returns-3 c = as-said (c .before .before .command3 .given .1) (λ m. every _ (λ i k. same _) (λ i k. same _) (λ i k. same _) refl (still (c .before .before .before .before)) refl refl (λ k. same _) (c .both-singles .ensures) (same _) (same _) refl)
 
 returns-4 : tie.Need-returns-4
-returns-4 c = as-said (c .before .before .command4 .given .1) (λ m. every _ (λ i k. same _) (λ i k. same _) (λ i k. same _) refl (still (c .before .before .before .before)) refl refl (λ k. same _) (same _) (c .both-standing2 .ensures) (same _) refl)
+returns-4 c = as-said (c .before .before .command4 .given .1) (λ m. every _ (λ i k. same _) (λ i k. same _) (λ i k. same _) refl (still (c .before .before .before .before)) refl refl (λ k. same _) (same _) (c .both-singles2 .ensures) (same _) refl)
 
 returns-5 : tie.Need-returns-5
-returns-5 c = as-said (c .before .before .before .command5 .given .1) (λ m. every _ (λ i k. same _) (λ i k. same _) (λ i k. same _) refl (still (c .before .before .before .before .before)) refl refl (λ k. same _) (same _) (same _) (c .both-standing3 .ensures ∙ ap (λ n. join (stands (c .before .before .before .before .before .before .before .args .c .lights)) (known n)) (c .before .lights-number .ensures)) refl)
+returns-5 c = as-said (c .before .before .before .command5 .given .1) (λ m. every _ (λ i k. same _) (λ i k. same _) (λ i k. same _) refl (still (c .before .before .before .before .before)) refl refl (λ k. same _) (same _) (same _) (c .both-singles3 .ensures ∙ ap (λ n. join (stands (c .before .before .before .before .before .before .before .args .c .lights)) (known n)) (c .before .lights-number .ensures)) refl)
 
 returns-6 : tie.Need-returns-6
 returns-6 c = as-said (c .enum-told2 .given .1) (λ m. every _ (λ i k. same _) (λ i k. same _) (λ i k. same _) refl (still (c .before .before)) refl refl (λ k. same _) (same _) (same _) (same _) refl)
@@ -129,12 +129,12 @@ weakened-spec =
     code-of-requires
     meet-code-requires
     enum-known-command-3
-    both-standing-requires
+    both-singles-requires
     enum-known-command-4
-    both-standing-requires-2
+    both-singles-requires-2
     enum-known-command-5
     lights-number-requires
-    both-standing-requires-3
+    both-singles-requires-3
     enum-told-2
     enum-told-3
     enum-told-4

@@ -2,7 +2,7 @@
 -- Assumes nothing.
 use mathlib.Core.Path.{refl, ap, _∙_}
 use Rattle.knowing.specs.Standing.{known}
-use Rattle.standing.specs.View.{stands}
+use Rattle.fact.specs.View.{stands}
 use Rattle.character.specs.Fact.{position}
 use Rattle.character.specs.Move.{byteIn}
 use Rattle.character_steps.specs.Steps.{known-step, kept-steps, same-rule}

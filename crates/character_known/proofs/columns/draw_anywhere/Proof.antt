@@ -1,7 +1,7 @@
 -- `character_known::columns::draw_anywhere` meets its contract: a known column may be in any character, an unknown one in any place.
 -- Assumes nothing.
 use mathlib.Core.Path.{refl, ap}
-use Rattle.standing.specs.View.{stands}
+use Rattle.fact.specs.View.{stands}
 use Rattle.character_known.specs.Ram.{columns}
 use Rattle.character_known.specs.Open.{open-step}
 use Rattle.character_known.specs.Places.{as-changed, character-step}

@@ -3,7 +3,7 @@
 use mathlib.Core.Path.{refl, ap}
 use mathlib.Core.Logic.{⊎-elim}
 use native.Mathlib.Omega.{arith}
-use Rattle.standing.specs.View.{stands}
+use Rattle.fact.specs.View.{stands}
 use Rattle.character.specs.Fact.{column}
 use Rattle.character.specs.Move.{drawn}
 use Rattle.character_steps.specs.Steps.{known-step}

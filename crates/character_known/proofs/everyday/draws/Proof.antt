@@ -4,7 +4,7 @@ use native.Mathlib.Omega.{arith}
 use mathlib.Core.Path.{_≡_, ap, _∙_}
 use Prim.Native.Nat.{_+_, _*_, _/_, _%_}
 use Rattle.knowing.specs.Standing.{known}
-use Rattle.standing.specs.View.{stands}
+use Rattle.fact.specs.View.{stands}
 use Rattle.character_knowledge.specs.View.{points}
 use borrow.Author.Needs.{needs}
 use Rattle.character_known.proofs.everyday.draws.Statement.{statement}

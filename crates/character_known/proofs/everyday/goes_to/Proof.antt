@@ -2,7 +2,7 @@
 -- Assumes nothing.
 use mathlib.Core.Path.{ap, _∙_}
 use Rattle.knowing.specs.Standing.{known}
-use Rattle.standing.specs.View.{stands}
+use Rattle.fact.specs.View.{stands}
 use Rattle.character_known.specs.Everyday.{deaf}
 use borrow.Author.Needs.{needs}
 use Rattle.character_known.proofs.everyday.goes_to.Statement.{statement}

@@ -3,7 +3,7 @@
 use mathlib.Core.Path.{refl, sym, ap, _∙_}
 use mathlib.Core.Bool.{true≢false}
 use borrow.Author.Tests.{eqb-true}
-use Rattle.standing.specs.View.{stands}
+use Rattle.fact.specs.View.{stands}
 use Rattle.lamps.specs.View.{shown}
 use Rattle.lamps.specs.Lamp.{none-shown}
 use Rattle.character.specs.Laws.{every}

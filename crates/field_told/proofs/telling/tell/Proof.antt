@@ -1,6 +1,6 @@
 -- `field_told::telling::tell` meets its contract: the tests that come first decide, and else what the five cells spell, where all are known. Assumes nothing.
 use mathlib.Core.Path.{sym, ap, _∙_}
-use Rattle.standing.specs.View.{stands}
+use Rattle.fact.specs.View.{stands}
 use Rattle.field_cells.specs.declared.Row.{Row}
 use Rattle.field.specs.Field.{spelled}
 use Rattle.field_cells.specs.Cells.{byRow, byteAt}

@@ -1,4 +1,4 @@
--- `segment::chip::Family::sizes` meets its contract: each arm knows its part.
+-- `segment::Family::sizes` meets its contract: each arm knows its part.
 -- Assumes nothing.
 use Rattle.segment.specs.Family.{sizes}
 use borrow.Author.Needs.{needs}

@@ -4,7 +4,7 @@ use native.Mathlib.Omega.{arith}
 use mathlib.Core.Path.{ap}
 use borrow.Author.Tests.{not-false}
 use borrow.Author.Needs.{needs}
-use Rattle.standing.specs.View.{stands}
+use Rattle.fact.specs.View.{stands}
 use Rattle.segment_everyday.specs.Still.{Stills, stills-none, stills-more}
 use Rattle.segment_everyday.proofs.still.still.Statement.{statement}
 use Rattle.segment_everyday.proofs.still.still.Tie as tie

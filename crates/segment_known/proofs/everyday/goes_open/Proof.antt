@@ -2,7 +2,7 @@
 use mathlib.Core.Path.{sym, ap, _∙_}
 use Rattle.knowing.specs.Standing.{known}
 use Rattle.knowing.specs.Holds.{is-known}
-use Rattle.standing.specs.View.{stands}
+use Rattle.fact.specs.View.{stands}
 use Rattle.segment_known.specs.Everyday.{hits-at, perhaps-at, reading-deaf}
 use borrow.Author.Needs.{needs}
 use Rattle.segment_known.proofs.everyday.goes_open.Statement.{statement}

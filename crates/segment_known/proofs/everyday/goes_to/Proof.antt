@@ -1,7 +1,7 @@
 -- `segment_known::everyday::goes_to` meets its contract: a known position is told by its number. Assumes nothing.
 use mathlib.Core.Path.{ap, _∙_}
 use Rattle.knowing.specs.Standing.{known}
-use Rattle.standing.specs.View.{stands}
+use Rattle.fact.specs.View.{stands}
 use Rattle.segment_known.specs.Everyday.{shut-deaf}
 use borrow.Author.Needs.{needs}
 use Rattle.segment_known.proofs.everyday.goes_to.Statement.{statement}

@@ -2,7 +2,7 @@
 use mathlib.Core.Path.{sym, ap, _∙_}
 use mathlib.Core.Bool.{true≢false}
 use borrow.Author.Tests.{eqb-true}
-use Rattle.standing.specs.View.{stands}
+use Rattle.fact.specs.View.{stands}
 use Rattle.segment_knowledge.specs.View.{points}
 use Rattle.lamps.specs.View.{shown}
 use Rattle.lamps.specs.Lamp.{none-shown}

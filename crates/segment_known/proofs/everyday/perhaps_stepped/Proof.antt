@@ -2,7 +2,7 @@
 use mathlib.Core.Path.{refl, sym, ap, _∙_}
 use mathlib.Core.Logic.{⊎-elim}
 use Rattle.knowing.specs.Standing.{known}
-use Rattle.standing.specs.View.{stands}
+use Rattle.fact.specs.View.{stands}
 use Rattle.segment_knowledge.specs.View.{points}
 use Rattle.segment_known.specs.Everyday.{perhapsOn, other-perhaps}
 use borrow.Author.Needs.{needs}

@@ -29,8 +29,8 @@ enum-known-command c = search needs
 display-in-requires : tie.Need-display-in-requires
 display-in-requires c κs = search needs
 
-both-standing-requires : tie.Need-both-standing-requires
-both-standing-requires c κs = search needs
+both-singles-requires : tie.Need-both-singles-requires
+both-singles-requires c κs = search needs
 
 perhaps-requires : tie.Need-perhaps-requires
 perhaps-requires c κs = search needs
@@ -111,7 +111,7 @@ perhaps-in-spec =
     command-of-requires
     enum-known-command
     display-in-requires
-    both-standing-requires
+    both-singles-requires
     perhaps-requires
     enum-told
     enum-known-command-2

@@ -5,7 +5,7 @@ use mathlib.Core.Bool.{true≢false}
 use borrow.Author.Tests.{eqb-true}
 use Rattle.knowing.specs.Standing.{known}
 use Rattle.knowing.specs.Join.{join-itself, join-not}
-use Rattle.standing.specs.View.{stands}
+use Rattle.fact.specs.View.{stands}
 use Rattle.lamps.specs.View.{shown}
 use Rattle.changes.specs.declared.Change.the-variants.{Keep, Meet}
 use Rattle.segment.specs.Family.{sizes}

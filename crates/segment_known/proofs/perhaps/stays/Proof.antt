@@ -3,7 +3,7 @@ use mathlib.Core.Path.{sym, ap, _∙_}
 use borrow.Author.Tests.{eqb-true}
 use Rattle.knowing.specs.Standing.{known}
 use Rattle.knowing.specs.Join.{join-both, join-not}
-use Rattle.standing.specs.View.{stands}
+use Rattle.fact.specs.View.{stands}
 use borrow.Author.Needs.{needs}
 use Rattle.segment_known.proofs.perhaps.stays.Statement.{statement}
 use Rattle.segment_known.proofs.perhaps.stays.Tie as tie

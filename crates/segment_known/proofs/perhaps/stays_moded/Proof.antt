@@ -2,7 +2,7 @@
 use mathlib.Core.Path.{ap, _∙_}
 use borrow.Author.Tests.{eqb-true}
 use Rattle.knowing.specs.Standing.{known}
-use Rattle.standing.specs.View.{stands}
+use Rattle.fact.specs.View.{stands}
 use Rattle.segment_known.specs.Anywhere.{same-mode, any-mode}
 use borrow.Author.Needs.{needs}
 use Rattle.segment_known.proofs.perhaps.stays_moded.Statement.{statement}

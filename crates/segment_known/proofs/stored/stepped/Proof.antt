@@ -1,7 +1,7 @@
 -- `segment_known::stored::stepped` meets its contract: each arm knows the stepping, or that it is unknown. Assumes nothing.
 use mathlib.Core.Path.{sym, ap, _∙_}
 use Rattle.knowing.specs.Standing.{known}
-use Rattle.standing.specs.View.{stands}
+use Rattle.fact.specs.View.{stands}
 use Rattle.segment.specs.Family.{sizes}
 use Rattle.segment.specs.Value.{pointer}
 use Rattle.segment_known.specs.Writes.{steppedOn, other-stepped}

@@ -3,7 +3,7 @@
 use mathlib.Core.Path.{refl}
 use Rattle.segment.specs.Family.{sizes}
 use Rattle.rules.specs.Tests.{both-tell, tells-as}
-use Rattle.standing.specs.View.{stands}
+use Rattle.fact.specs.View.{stands}
 use Rattle.segment_ranges.specs.Ranges.{byte-lacking}
 use borrow.Author.Needs.{needs}
 use Rattle.segment_ranges.proofs.ranges.own_sound.Statement.{statement}

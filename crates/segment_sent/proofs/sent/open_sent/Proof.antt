@@ -2,7 +2,7 @@
 -- Assumes nothing.
 use mathlib.Core.Path.{subst}
 use Rattle.segment.specs.Sent.{openSent}
-use Rattle.standing.specs.View.{stands}
+use Rattle.fact.specs.View.{stands}
 use Rattle.knowing.specs.Standing.{Within}
 use Rattle.knowing.specs.Ways.{known-way}
 use mathlib.Core.Path.{ap}

@@ -4,7 +4,7 @@ use native.Mathlib.Omega.{arith}
 use Rattle.segment_sent.specs.Counts.{undriven, again}
 use Rattle.sendings.specs.declared.Sending.the-variants.{NotDriven}
 use Rattle.segment.specs.Sent.{sentAt, openSent}
-use Rattle.standing.specs.View.{stands}
+use Rattle.fact.specs.View.{stands}
 use Rattle.rules.specs.Rule.{look}
 use Rattle.knowing.specs.Ways.{way, known-way, first-way, next-way, all-ways, learns-sound}
 use mathlib.Core.Path.{refl, ap}

@@ -1,7 +1,7 @@
 -- `segment_sent::sent::switches_at` meets its contract: the switches at count 0, and else nothing is driven.
 -- Assumes nothing.
 use borrow.Author.Tests.{eq-eqb, ne-eqb}
-use Rattle.standing.specs.View.{stands}
+use Rattle.fact.specs.View.{stands}
 use mathlib.Core.Path.{refl, sym, ap}
 use borrow.Author.Needs.{needs}
 use Rattle.segment_sent.proofs.sent.switches_at.Statement.{statement}

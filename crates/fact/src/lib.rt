@@ -4,49 +4,49 @@ ghost use Rattle.knowing.specs.Standing.{Within};
 ghost use Rattle.knowing.specs.Know.{join};
 ghost use Rattle.knowing.specs.Holds.{isKnown};
 ghost use Rattle.rules.specs.Tests.{Tests};
-ghost use Rattle.standing.specs.View.{stands};
+ghost use Rattle.fact.specs.View.{stands};
 
 // Known, with its value's number, or unknown.
-pub enum Standing {
+pub enum Single {
     Known(u8),
     Unknown,
 }
 
-// What two standings have in common.
-pub fn both_standing(a: Standing, b: Standing) -> Standing
+// What two single facts have in common.
+pub fn both_singles(a: Single, b: Single) -> Single
     ensures { λ r. ⌜ stands r ≡ join (stands a) (stands b) ⌝ }
 {
     match a {
-        Standing::Known(v) => match b {
-            Standing::Known(w) => {
+        Single::Known(v) => match b {
+            Single::Known(w) => {
                 if v == w {
-                    Standing::Known(v)
+                    Single::Known(v)
                 } else {
-                    Standing::Unknown
+                    Single::Unknown
                 }
             }
-            Standing::Unknown => Standing::Unknown,
+            Single::Unknown => Single::Unknown,
         },
-        Standing::Unknown => Standing::Unknown,
+        Single::Unknown => Single::Unknown,
     }
 }
 
 // The fact is known to be v.
-pub fn is_known(s: Standing, v: u8) -> bool
+pub fn is_known(s: Single, v: u8) -> bool
     ensures { λ r. ⌜ r ≡ isKnown (stands s) v ⌝ }
 {
     match s {
-        Standing::Known(w) => w == v,
-        Standing::Unknown => false,
+        Single::Known(w) => w == v,
+        Single::Unknown => false,
     }
 }
 
 // What is known is below the limit. Whatever it is, it is a byte.
-pub fn within(s: Standing, limit: u8) -> bool
+pub fn within(s: Single, limit: u8) -> bool
     ensures { λ r. ⌜ (Tests r (Within limit (stands s))) × (Within 256 (stands s)) ⌝ }
 {
     match s {
-        Standing::Known(v) => v < limit,
-        Standing::Unknown => true,
+        Single::Known(v) => v < limit,
+        Single::Unknown => true,
     }
 }

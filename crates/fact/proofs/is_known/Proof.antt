@@ -1,10 +1,10 @@
--- `standing::standing::is_known` meets its contract: a known value is v or not, and an unknown one is not known to be it.
+-- `fact::is_known` meets its contract: a known value is v or not, and an unknown one is not known to be it.
 -- Assumes nothing.
 use mathlib.Core.Path.{ap}
-use Rattle.standing.specs.View.{stands}
+use Rattle.fact.specs.View.{stands}
 use borrow.Author.Needs.{needs}
-use Rattle.standing.proofs.is_known.Statement.{statement}
-use Rattle.standing.proofs.is_known.Tie as tie
+use Rattle.fact.proofs.is_known.Statement.{statement}
+use Rattle.fact.proofs.is_known.Tie as tie
 
 enum-known-s : tie.Need-enum-known-s
 enum-known-s c = search needs

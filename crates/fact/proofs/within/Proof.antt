@@ -1,12 +1,12 @@
--- `standing::standing::within` meets its contract: a known value is below the limit or not, and an unknown one holds nothing.
+-- `fact::within` meets its contract: a known value is below the limit or not, and an unknown one holds nothing.
 -- Assumes nothing.
 use native.Mathlib.Omega.{arith}
-use Rattle.standing.specs.View.{stands}
+use Rattle.fact.specs.View.{stands}
 use mathlib.Core.Path.{refl, ap}
 use borrow.Author.Tests.{ltb-true, lt-ltb}
 use borrow.Author.Needs.{needs}
-use Rattle.standing.proofs.within.Statement.{statement}
-use Rattle.standing.proofs.within.Tie as tie
+use Rattle.fact.proofs.within.Statement.{statement}
+use Rattle.fact.proofs.within.Tie as tie
 
 enum-known-s : tie.Need-enum-known-s
 enum-known-s c = search needs

@@ -1,12 +1,12 @@
--- `standing::standing::both_standing` meets its contract: each arm is one case of what two ways have in common.
+-- `fact::both_singles` meets its contract: each arm is one case of what two ways have in common.
 -- Assumes nothing.
 use Rattle.knowing.specs.Standing.{known}
 use mathlib.Core.Path.{sym, ap, _∙_}
 use Rattle.knowing.specs.Join.{join-not, join-nor, join-other, join-both}
-use Rattle.standing.specs.View.{stands}
+use Rattle.fact.specs.View.{stands}
 use borrow.Author.Needs.{needs}
-use Rattle.standing.proofs.both_standing.Statement.{statement}
-use Rattle.standing.proofs.both_standing.Tie as tie
+use Rattle.fact.proofs.both_singles.Statement.{statement}
+use Rattle.fact.proofs.both_singles.Tie as tie
 
 enum-known-a : tie.Need-enum-known-a
 enum-known-a c = search needs
@@ -32,8 +32,8 @@ returns-3 c = join-nor _ _ (ap stands (c .enum-told .given .1))
 returns-4 : tie.Need-returns-4
 returns-4 c = join-not _ _ (ap stands (c .enum-told2 .given .1))
 
-pub both-standing-spec : {M : Type 1} → statement M
-both-standing-spec =
+pub both-singles-spec : {M : Type 1} → statement M
+both-singles-spec =
     tie.close
     (tie.spec
     enum-known-a
