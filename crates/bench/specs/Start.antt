@@ -9,7 +9,7 @@ use Rattle.fact.specs.declared.Single.the-variants.{Unknown}
 use Rattle.segment_knowledge.specs.declared.Control as Segment
 use Rattle.segment_knowledge.specs.declared.Pointing.the-variants as Of·Segment
 use Rattle.character_knowledge.specs.declared.Control as Character
-use Rattle.character_knowledge.specs.declared.Pointing.the-variants as Of·Character
+use Rattle.fact.specs.declared.Pointing.the-variants as Of·Character
 use Rattle.panel.specs.declared.Panel.{Panel}
 use Rattle.replay.specs.declared.replays.Replayed.{Replayed}
 use Rattle.replay.specs.FromNothing.{FromNothing}

@@ -6,8 +6,8 @@ use Rattle.fact.specs.View.{same-single}
 use Rattle.lamps.specs.Lamp.{one-code}
 use Rattle.lamps.specs.Row.{one-row}
 use Rattle.character.specs.Fact.{Fact, dcram, cgram, adram, dcramAt, cgramAt, adramAt, column, port, duty, digits, lights, position}
-use Rattle.character_knowledge.specs.declared.Pointing.{Pointing}
-use Rattle.character_knowledge.specs.declared.Pointing.the-variants.{At, Unknown}
+use Rattle.fact.specs.declared.Pointing.{Pointing}
+use Rattle.fact.specs.declared.Pointing.the-variants.{At, Unknown}
 use Rattle.character_knowledge.specs.declared.Knowledge.{Knowledge}
 use Rattle.character_knowledge.specs.View.{points, kview}
 

@@ -6,8 +6,8 @@ use Rattle.knowing.specs.Ways as Ways
 use Rattle.fact.specs.View.{stands}
 use Rattle.lamps.specs.View.{shown, held}
 use Rattle.character.specs.Fact.{Fact, same?, range, textBits, columnBits, pairBits, portBits, dcram, cgram, adram, dcramAt, cgramAt, adramAt, column, port, duty, digits, lights, position}
-use Rattle.character_knowledge.specs.declared.Pointing.{Pointing}
-use Rattle.character_knowledge.specs.declared.Pointing.the-variants.{At, Unknown}
+use Rattle.fact.specs.declared.Pointing.{Pointing}
+use Rattle.fact.specs.declared.Pointing.the-variants.{At, Unknown}
 use Rattle.character_knowledge.specs.declared.Control.{Control}
 use Rattle.character_knowledge.specs.declared.Knowledge.{Knowledge}
 

@@ -1,6 +1,7 @@
 // What is known of a PT6302 panel, as a value.
 mod numbers;
 
+pub use fact::Pointing;
 use fact::Single;
 pub use numbers::ADRAM;
 pub use numbers::CGRAM;
@@ -11,18 +12,11 @@ pub use numbers::IGNORING;
 pub use numbers::NORMAL;
 pub use numbers::OFF;
 pub use numbers::ON;
-use terms::Address;
 ghost use mathlib.Core.Path.{_≡_};
 ghost use Rattle.knowing.specs.Standing.{unknown};
 ghost use Rattle.knowing.specs.Ways.{Learns};
 ghost use Rattle.character.specs.Fact.{Fact, same?, position};
 ghost use Rattle.character_knowledge.specs.View.{Memory, blank, cview, kview};
-
-// The address in a RAM: known or unknown.
-pub enum Pointing {
-    At(Address),
-    Unknown,
-}
 
 // The port is a code of `lamps`, bit by bit.
 pub struct Control {

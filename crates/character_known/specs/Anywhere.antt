@@ -30,8 +30,8 @@ use Rattle.character.specs.Laws.{every, port-undefined}
 use Rattle.character.specs.Range.{two}
 use Rattle.character.specs.Move.{spells, commanded, shown, marked, drawn, byteIn}
 use Rattle.character_knowledge.specs.declared.Control.{Control}
-use Rattle.character_knowledge.specs.declared.Pointing.{Pointing}
-use Rattle.character_knowledge.specs.declared.Pointing.the-variants.{At, Unknown}
+use Rattle.fact.specs.declared.Pointing.{Pointing}
+use Rattle.fact.specs.declared.Pointing.the-variants.{At, Unknown}
 use Rattle.character_knowledge.specs.View.{Memory, cview, points}
 use Rattle.character_steps.specs.declared.Step.{Step}
 use Rattle.character_steps.specs.Step.{sview, Steps}

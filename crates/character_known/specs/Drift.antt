@@ -26,8 +26,8 @@ use Rattle.character.specs.Fact.{Fact, same?, range, dcram, cgram, adram, dcram
 use Rattle.character.specs.Laws.{every}
 use Rattle.character.specs.Move.{move}
 use Rattle.character_knowledge.specs.declared.Control.{Control}
-use Rattle.character_knowledge.specs.declared.Pointing.{Pointing}
-use Rattle.character_knowledge.specs.declared.Pointing.the-variants.{At, Unknown}
+use Rattle.fact.specs.declared.Pointing.{Pointing}
+use Rattle.fact.specs.declared.Pointing.the-variants.{At, Unknown}
 use Rattle.character_knowledge.specs.View.{Memory, blank, cview, points}
 use Rattle.character_steps.specs.declared.Step.{Step}
 use Rattle.character_steps.specs.Step.{sview, Steps}

@@ -18,8 +18,8 @@ use Rattle.character.specs.Fact.{Fact, same?, dcram, cgram, adram, cgramAt, col
 use Rattle.character.specs.Laws.{every, dcram-apart, cgram-apart, adram-apart}
 use Rattle.character.specs.Move.{shown, marked, drawn}
 use Rattle.character_knowledge.specs.declared.Control.{Control}
-use Rattle.character_knowledge.specs.declared.Pointing.{Pointing}
-use Rattle.character_knowledge.specs.declared.Pointing.the-variants.{At, Unknown}
+use Rattle.fact.specs.declared.Pointing.{Pointing}
+use Rattle.fact.specs.declared.Pointing.the-variants.{At, Unknown}
 use Rattle.character_knowledge.specs.View.{cview, points}
 use Rattle.character_steps.specs.declared.Step.{Step}
 use Rattle.character_steps.specs.Step.{Steps}

@@ -12,7 +12,7 @@ use Rattle.character.specs.declared.Position.the-variants.{Dcram, Cgram, Adram}
 use Rattle.character.specs.Value.{at-position}
 use Rattle.character.specs.Fact.{textBits, columnBits, pairBits}
 use Rattle.character_knowledge.specs.declared.Control.{Control}
-use Rattle.character_knowledge.specs.declared.Pointing.the-variants.{At}
+use Rattle.fact.specs.declared.Pointing.the-variants.{At}
 use Rattle.character_knowledge.specs.View.{Memory, points}
 use Rattle.character_steps.specs.declared.Step.{Step}
 use Rattle.character_known.specs.declared.astray.Astray.{Astray}

@@ -28,8 +28,8 @@ use Rattle.character.specs.Fact.{Fact, same?, dcram, cgram, adram, dcramAt, cgr
 use Rattle.character.specs.Laws.{ports-apart}
 use Rattle.character.specs.Move.{commanded}
 use Rattle.character_knowledge.specs.declared.Control.{Control}
-use Rattle.character_knowledge.specs.declared.Pointing.{Pointing}
-use Rattle.character_knowledge.specs.declared.Pointing.the-variants.{At, Unknown}
+use Rattle.fact.specs.declared.Pointing.{Pointing}
+use Rattle.fact.specs.declared.Pointing.the-variants.{At, Unknown}
 use Rattle.character_knowledge.specs.View.{Memory, cview, points}
 
 -- The cells of DCRAM or ADRAM, and the columns of CGRAM, that a byte may have gone to.

@@ -1,7 +1,7 @@
 -- The facts of a PT6302 panel in the checksum, in paper 01's order.
 use Prim.Native.Nat.{ℕ}
-use Rattle.character_knowledge.specs.declared.Pointing.{Pointing}
-use Rattle.character_knowledge.specs.declared.Pointing.the-variants.{At, Unknown}
+use Rattle.fact.specs.declared.Pointing.{Pointing}
+use Rattle.fact.specs.declared.Pointing.the-variants.{At, Unknown}
 use Rattle.character_knowledge.specs.declared.Control.{Control}
 use Rattle.character_knowledge.specs.declared.Knowledge.{Knowledge}
 use Rattle.checksum.specs.Sum.{taken, allTaken, factCode}

@@ -28,7 +28,7 @@ use Rattle.segment.specs.Laws as SegmentLaws
 use Rattle.character.specs.Fact as Character
 use Rattle.character.specs.Laws as CharacterLaws
 use Rattle.segment_knowledge.specs.declared.Pointing.the-variants as OfSegment
-use Rattle.character_knowledge.specs.declared.Pointing.the-variants as OfCharacter
+use Rattle.fact.specs.declared.Pointing.the-variants as OfCharacter
 use Rattle.parts.specs.Facts.{Fact, range}
 use Rattle.panel.specs.declared.Panel.{Panel}
 use Rattle.panel.specs.View.{knownOf}

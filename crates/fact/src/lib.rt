@@ -1,4 +1,5 @@
 // A single fact, known or unknown, as a value. What is known beside memory is made of these.
+use terms::Address;
 ghost use mathlib.Core.Path.{_≡_};
 ghost use Rattle.knowing.specs.Standing.{Within};
 ghost use Rattle.knowing.specs.Know.{join};
@@ -9,6 +10,12 @@ ghost use Rattle.fact.specs.View.{stands};
 // Known, with its value's number, or unknown.
 pub enum Single {
     Known(u8),
+    Unknown,
+}
+
+// The same of an address that is always a cell, as those of PT6302 are.
+pub enum Pointing {
+    At(Address),
     Unknown,
 }
 

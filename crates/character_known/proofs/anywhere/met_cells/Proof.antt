@@ -1,7 +1,7 @@
 -- `character_known::anywhere::met_cells` meets its contract: a known address and an unknown one have each their own cells.
 -- Assumes nothing.
 use mathlib.Core.Path.{sym, ap}
-use Rattle.character_knowledge.specs.declared.Pointing.{Pointing}
+use Rattle.fact.specs.declared.Pointing.{Pointing}
 use Rattle.character_known.specs.Weakened.{metAt}
 use borrow.Author.Needs.{needs}
 use Rattle.character_known.proofs.anywhere.met_cells.Statement.{statement}

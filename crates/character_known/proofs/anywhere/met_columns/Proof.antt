@@ -2,7 +2,7 @@
 -- Assumes nothing.
 use mathlib.Core.Path.{sym, ap₂}
 use Rattle.fact.specs.declared.Single.{Single}
-use Rattle.character_knowledge.specs.declared.Pointing.{Pointing}
+use Rattle.fact.specs.declared.Pointing.{Pointing}
 use Rattle.character_known.specs.Weakened.{metColumn}
 use borrow.Author.Needs.{needs}
 use Rattle.character_known.proofs.anywhere.met_columns.Statement.{statement}

@@ -13,7 +13,7 @@ use Rattle.character.specs.declared.command.Command.{Command}
 use Rattle.character.specs.Command.{Defined}
 use Rattle.character.specs.Laws.{every}
 use Rattle.character_knowledge.specs.declared.Control.{Control}
-use Rattle.character_knowledge.specs.declared.Pointing.the-variants.{Unknown}
+use Rattle.fact.specs.declared.Pointing.the-variants.{Unknown}
 use Rattle.character_knowledge.specs.View.{points}
 use Rattle.character_known.specs.Weakened.{lasts, stays, same, same-place, port-met, as-said}
 use borrow.Author.Needs.{needs}
