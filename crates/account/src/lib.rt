@@ -9,7 +9,7 @@ pub use unfinished::joined;
 pub use unfinished::row_of;
 pub use unfinished::whole_of;
 
-// As it was answered, if there is one.
+// The refusal that stands, as it was answered, if there is one.
 pub enum Kept {
     None,
     Refused(Answer),

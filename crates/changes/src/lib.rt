@@ -10,6 +10,7 @@ use terms::Address;
 ghost use mathlib.Core.Path.{_≡_};
 ghost use Rattle.changes.specs.Change.{loose};
 
+// A small value: the row itself is changed once, where it stands.
 pub enum Change {
     // Every code stays.
     Keep,

@@ -18,7 +18,7 @@ ghost use Rattle.knowing.specs.Ways.{Learns};
 ghost use Rattle.character.specs.Fact.{Fact, same?, position};
 ghost use Rattle.character_knowledge.specs.View.{Memory, blank, cview, kview};
 
-// The port is a code of `lamps`, bit by bit.
+// What is known beside the memory: what an event goes by, small enough to be handed on by value. The port is a code of `lamps`, bit by bit.
 pub struct Control {
     pub dcram_at: Pointing,
     pub cgram_at: Pointing,

@@ -9,6 +9,7 @@ ghost use mathlib.Core.Path.{_≡_};
 ghost use Rattle.rules.specs.Rule.{gives, free};
 ghost use Rattle.character_steps.specs.Step.{keptOf, forgottenOf, Steps};
 
+// The facts beside the memory, and what happens to the memory.
 pub struct Step {
     pub control: Control,
     pub dcram: Change,

@@ -11,6 +11,7 @@ pub use kinds::has_switches;
 use terms::Event;
 use terms::Place;
 
+// How a walk ends.
 pub enum Ending {
     // Behind the last record.
     Done,
@@ -30,6 +31,7 @@ pub enum Refusal {
     Forbidden,
 }
 
+// What a record is read as.
 pub enum Read {
     // An event, and the length of its record.
     Is(Event, usize),

@@ -29,7 +29,7 @@ pub enum Pointing {
     Unknown,
 }
 
-// The LED is a code of `lamps`, bit by bit. A key byte that is 256 is unknown, and one below is known to be that.
+// What is known beside the memory: what an event goes by, small enough to be handed on by value. The LED is a code of `lamps`, bit by bit. A key byte that is 256 is unknown, and one below is known to be that.
 pub struct Control {
     pub address: Pointing,
     pub data: Single,

@@ -11,6 +11,7 @@ ghost use Rattle.rules.specs.Rule.{gives, free};
 ghost use Rattle.segment.specs.Family.{sizes};
 ghost use Rattle.segment_steps.specs.Step.{keptOf, forgottenOf, Steps};
 
+// The facts beside the memory, and what happens to the memory.
 pub struct Step {
     pub control: Control,
     pub change: Change,
