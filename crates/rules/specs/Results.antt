@@ -1,7 +1,7 @@
 -- A move's own answer and its results are one thing. A move answers with new values and says which facts are
 -- anything; the results are all chips that this leaves open. The argument, fact by fact: where the rule gives a
 -- value, both ask for that value; where it says anything, both ask only for one in range.
-use Rattle.std.specs.Prelude.{ℕ, ◌<◌, ◌≡◌, Bool, true, false}
+use Rattle.std.specs.Prelude.{ℕ, ◌<◌, ◌≡◌, Bool, false}
 use Rattle.std.proofs.Common.{sym, ap, ◌∙◌, true≢false}
 use Rattle.std.proofs.Math.Path.{subst⁻¹}
 use Rattle.rules.specs.Rule.{Rule, Outcome, becomes, anything, run, Told, told, Moves}

@@ -1,5 +1,7 @@
 // The words that everything else speaks: a place in a recording, an address in a chip, a recorded event, and the part that a
 // part byte names.
+#![tactic(auto)]
+
 ghost use Rattle.std.specs.Prelude.{◌≡◌};
 ghost use Rattle.terms.specs.Part.{part_of, number, place, part_number};
 

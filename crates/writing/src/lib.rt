@@ -1,4 +1,6 @@
 // Writing text to lent memory, as far as there is room. Each function gives the place behind what it wrote.
+#![tactic(auto)]
+
 ghost use Rattle.writing.specs.Writes.{Writes};
 ghost use Rattle.std.specs.Prelude.{[], ◌∷◌};
 

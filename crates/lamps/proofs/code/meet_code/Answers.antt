@@ -1,10 +1,6 @@
 -- `lamps::code::meet_code` meets its contract: the law `code_met`, of numbers of two bytes. Assumes nothing.
 use Rattle.lamps.specs.Lamp.{code_met}
-use Rattle.lamps.proofs.code.meet_code.Statement.{statement}
-use Rattle.lamps.proofs.code.meet_code.Tie as tie
+use Rattle.lamps.proofs.code.meet_code.Goals as goal
 
-returns : tie.Need-returns
+pub returns : goal.returns
 returns c = λ w W h k. code_met w c.args.wide W c.args.c h c.args.code k c.ranges.code.fits c.ranges.c.fits
-
-pub meet_code_spec : {M : Type 1} → statement M
-meet_code_spec = tie.close (tie.spec returns)
