@@ -4,7 +4,8 @@
 use Rattle.std.specs.Prelude.{ℕ}
 use Rattle.rules.specs.Range.{Good}
 use Rattle.rules.specs.Turn.{Result}
-use Rattle.rules.specs.Results.{HasAnswer, results_exactly}
+use Rattle.rules.specs.Results.{HasAnswer}
+use Rattle.rules.proofs.Results.{results_exactly}
 use Rattle.terms.specs.declared.Event.{Event}
 use Rattle.terms.specs.Event.{Bytes}
 use Rattle.segment.specs.declared.Family.{Family}

@@ -5,7 +5,7 @@ use Rattle.std.specs.Prelude.{ℕ, ◌≤◌, List, [], ◌∷◌}
 use Rattle.rules.specs.Rule.{Rule, run}
 use Rattle.rules.specs.Range.{Good, Ranged}
 use Rattle.rules.specs.Turn.{Result}
-use Rattle.rules.specs.Results.{result_good}
+use Rattle.rules.proofs.Results.{result_good}
 use Rattle.knowing.specs.Standing.{Standing, known, Fits, Sound}
 use Rattle.knowing.specs.Know.{know}
 use Rattle.knowing.specs.Moves.{some, allowed, still_fits}

@@ -9,7 +9,7 @@ use Rattle.std.proofs.Math.Path.{fun_ext, subst⁻¹}
 use Rattle.rules.specs.Rule.{Rule}
 use Rattle.rules.specs.Range.{Good, Ranged}
 use Rattle.rules.specs.Turn.{Ends}
-use Rattle.rules.specs.Results.{result_good}
+use Rattle.rules.proofs.Results.{result_good}
 use Rattle.knowing.specs.Standing.{Standing, known, unknown, Agrees, Fits, Sound}
 use Rattle.knowing.specs.Know.{know}
 use Rattle.knowing.specs.Fill.{fill, filled, filled_fits, filled_good}
