@@ -1,4 +1,6 @@
 // PT6302: its facts as a value and the reading of a first byte as a command; the rules in specs/ say what an event does to such a chip.
+#![tactic(auto)]
+
 mod command;
 
 pub use command::{Command, command_of};
