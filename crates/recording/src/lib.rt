@@ -1,4 +1,6 @@
 // The recording: what its records are, what a record is read as, and what a body and a part allow. The reading itself, as code, is the crate `one_record`.
+#![tactic(auto)]
+
 mod bodies;
 mod kinds;
 
