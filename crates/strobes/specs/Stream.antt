@@ -1,6 +1,6 @@
 -- Laws of writing a stream: what is written piece by piece is the whole, and how long it is.
 use Rattle.std.specs.Prelude.{ℕ, suc, ◌+◌, ◌*◌, ◌<◌, ◌≡◌, refl, List, [], ◌∷◌, ◌++◌, map, length, get_or, take, set}
-use Rattle.std.proofs.Common.{arith, add-one, sym, ap, ◌∙◌, append_assoc, length-append, take-suc, length-take-le}
+use Rattle.std.proofs.Common.{arith, add-one, sym, ap, ◌∙◌, length-append, take-suc, length-take-le}
 use Rattle.std.proofs.lemmas.List.Edits.{sets}
 use Rattle.writing.specs.Sets.{sets_append}
 use Rattle.terms.specs.declared.Event.{Event}
