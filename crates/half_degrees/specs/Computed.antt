@@ -1,16 +1,16 @@
 -- What the code computes of a number of half degrees. The argument: there are fewer than 256 of them, and a test that
 -- computes goes through all; any other float that is as many half degrees is the one computed here.
-use Rattle.std.specs.Prelude.{ℕ, zero, suc, ◌*◌, ◌<◌, ◌≡◌, refl, Bool, true, false, not, ◌&&◌, ℤ, pos, negsuc, T, eqb, leb, ltb, Float}
+use Rattle.std.specs.Prelude.{ℕ, zero, suc, ◌*◌, ◌<◌, ◌≡◌, refl, Bool, true, false, not, ◌&&◌, ℤ, pos, negsuc, T, eqb, Float}
 use Rattle.std.proofs.Math.Decide.{ℕ_discrete}
-use Rattle.std.proofs.Common.{arith, sym, ap, ◌∙◌, subst, true≢false, eqb→eq}
+use Rattle.std.proofs.Common.{arith, sym, subst, true≢false, eqb→eq}
 use Rattle.std.specs.Bool.{beq}
 use Rattle.std.specs.Int.Count.{count_trailing_zeros}
 use Rattle.std.specs.Float.{nan, inf, fin, binary32}
-use Rattle.std.specs.Float.Ieee.{up, down, size, span, climb, round, units, odd, mul, sub, add, sum, neg, lt, below, of_int, of_bits, of_fields, whole, in_unsigned, to_unsigned, fits}
+use Rattle.std.specs.Float.Ieee.{up, down, size, span, climb, round, units, odd, mul, sub, add, sum, neg, lt, of_int, of_bits, of_fields, whole, in_unsigned, to_unsigned, fits}
 use Rattle.std.specs.Float.Ieee.Fits.{and_l, and_r, mul-fits, sub-fits}
 use Rattle.std.specs.Float.Ieee.Exact.{HasValue}
 use Rattle.half_degrees.specs.Half.{signed, InHalves, Halved, Counted}
-use Rattle.half_degrees.specs.Laws.{one_float, one_number}
+use Rattle.half_degrees.specs.Laws.{one_float}
 
 -- So many half degrees, and as many below nought, as the code has them: 0.5, 0.0 and 2.0 by their bits.
 abbrev pub above : ℕ → Float

@@ -123,7 +123,11 @@ some m a e h z =
 
 one_of_size : (f g : Float) (s : Bool) (a : ℕ) → T (fits binary32 f) → T (fits binary32 g) → HasValue f s a 2 → HasValue g s a 2 → f ≡ g
 one_of_size f g s zero p q v w = whole_unique binary32 f g s 0 p q (no_halves f s v) (no_halves g s w)
+one_of_size nan g s (suc a) p q v w = elim v [ ]
+one_of_size (inf _) g s (suc a) p q v w = elim v [ ]
 one_of_size (fin t zero e) g s (suc a) p q v w = absurd (some 0 a e v.1 refl)
+one_of_size (fin t (suc m) e) nan s (suc a) p q v w = elim w [ ]
+one_of_size (fin t (suc m) e) (inf _) s (suc a) p q v w = elim w [ ]
 one_of_size (fin t (suc m) e) (fin u zero g) s (suc a) p q v w = absurd (some 0 a g w.1 refl)
 one_of_size (fin t (suc m) e) (fin u (suc n) g) s (suc a) p q v w =
     let r = same_exponent (suc m) (suc n) e g (is_odd binary32 t m e p) (is_odd binary32 u n g q) (crossed (suc m * up e) (suc n * up g) (suc a) (down e) (down g) v.1 w.1) in

@@ -1,4 +1,6 @@
 // Half degrees as floating degrees, exactly, and back.
+#![tactic(auto)]
+
 ghost use Rattle.std.specs.Prelude.{◌≡◌, false};
 ghost use Rattle.std.specs.Float.Ieee.Exact.{HasValue};
 ghost use Rattle.half_degrees.specs.Half.{signed, InHalves, Halved, Counted};
