@@ -1,8 +1,11 @@
 // What a call of read answers, and what that tells of the input.
+#![tactic(auto)]
+
 ghost use Rattle.std.specs.Prelude.{◌≡◌};
 ghost use Rattle.read_answer.specs.Answer.{told_by};
 
-use libc::EINTR;
+// errno of a call that a signal interrupted.
+const EINTR: i32 = 4;
 
 #[derive(Drop)]
 pub enum Input {
