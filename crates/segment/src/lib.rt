@@ -1,5 +1,7 @@
 // PT6312 and PT6315: one family, whose parts differ in a few numbers. Here are their facts and commands as values; the rules in
 // specs/ say what an event does to such a chip.
+#![tactic(auto)]
+
 mod command;
 mod stepped;
 
