@@ -9,7 +9,7 @@ pub use kinds::{has_keys, has_switches};
 use terms::{Event, Place};
 
 // How a walk ends.
-#[derive(Drop)]
+#[derive(Clone, Copy)]
 pub enum Ending {
     // Behind the last record.
     Done,
@@ -18,7 +18,7 @@ pub enum Ending {
 }
 
 // Why there is no record: numbers 5, 6, 7 and 8.
-#[derive(Drop)]
+#[derive(Clone, Copy)]
 pub enum Refusal {
     // The kind is not listed.
     Unlisted,
@@ -31,7 +31,7 @@ pub enum Refusal {
 }
 
 // What a record is read as.
-#[derive(Drop)]
+#[derive(Clone, Copy)]
 pub enum Read {
     // An event, and the length of its record.
     Is(Event, usize),

@@ -6,15 +6,15 @@ ghost use Rattle.std.specs.Prelude.{◌≡◌};
 ghost use Rattle.terms.specs.Part.{part_of, number, place, part_number};
 
 // A place in a recording, counted from its first byte. Refusals carry one.
-#[derive(Drop)]
+#[derive(Clone, Copy)]
 pub struct Place(pub usize);
 
 // An address in a chip: the number of a cell or of a character. Moves take one.
-#[derive(Drop)]
+#[derive(Clone, Copy)]
 pub struct Address(pub u8);
 
 // What a recorder notes.
-#[derive(Drop)]
+#[derive(Clone, Copy)]
 pub enum Event {
     // Power is applied.
     Power,
@@ -37,7 +37,7 @@ pub enum Event {
 }
 
 // The parts that are mirrored.
-#[derive(Drop)]
+#[derive(Clone, Copy)]
 pub enum Part {
     Pt6302,
     Pt6312,
@@ -45,7 +45,7 @@ pub enum Part {
 }
 
 // What a part byte names: a part, or number 1 at its place.
-#[derive(Drop)]
+#[derive(Clone, Copy)]
 pub enum PartRead {
     Is(Part),
     Refused(Place),
