@@ -1,4 +1,6 @@
 // A single fact, known or unknown, as a value. What is known beside memory is made of these.
+#![tactic(auto)]
+
 ghost use Rattle.std.specs.Prelude.{◌≡◌};
 ghost use Rattle.knowing.specs.Standing.{Within};
 ghost use Rattle.knowing.specs.Know.{join};

@@ -1,4 +1,6 @@
 // Key bytes in a row, each known or unknown as a whole: the code 256 is unknown, and any other code is known to be that number.
+#![tactic(auto)]
+
 ghost use Rattle.std.specs.Prelude.{◌≤◌, length};
 ghost use Rattle.rules.specs.Tests.{Tests};
 ghost use Rattle.knowing.specs.Standing.{Within};
