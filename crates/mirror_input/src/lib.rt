@@ -1,4 +1,6 @@
 // What the programs read: the part byte, for a field its start, and the recording behind.
+#![tactic(auto)]
+
 ghost use Rattle.std.specs.Prelude.{◌≡◌};
 ghost use Rattle.mirror_input.specs.Input.{part_byte, behind, start_byte};
 
