@@ -5,7 +5,7 @@ use answers::Answer;
 pub use unfinished::{Unfinished, count_of, held, joined, row_of, whole_of};
 
 // The refusal that stands, as it was answered, if there is one.
-#[derive(Drop)]
+#[derive(Clone, Copy)]
 pub enum Kept {
     None,
     Refused(Answer),

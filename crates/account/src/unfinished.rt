@@ -5,7 +5,7 @@ ghost use Rattle.account.specs.Bytes.{bytes_of, row_of, first_five, whole_of};
 use recording::body_of;
 
 // At most four, since the longest record has five.
-#[derive(Drop)]
+#[derive(Clone, Copy)]
 pub enum Unfinished {
     None,
     One(u8),

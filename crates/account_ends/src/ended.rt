@@ -8,7 +8,7 @@ use recording::{Ending, Refusal};
 use terms::Place;
 
 // The packet's answer, and the account after it.
-#[derive(Drop)]
+#[derive(Clone, Copy)]
 pub struct Ended {
     pub answer: Answer,
     pub unfinished: Unfinished,

@@ -7,7 +7,7 @@ use recording::{Ending, Refusal};
 use terms::Place;
 
 // Done, with the recording's length, or why not: numbers 1 to 8, each at its place.
-#[derive(Drop)]
+#[derive(Clone, Copy)]
 pub enum Answer {
     Done(Place),
     NoPart(Place),
@@ -21,7 +21,7 @@ pub enum Answer {
 }
 
 // What tests that come before any record give.
-#[derive(Drop)]
+#[derive(Clone, Copy)]
 pub enum Trial {
     // The records are looked at next.
     Passed,
@@ -53,7 +53,7 @@ pub fn ended(ending: Ending, from: usize, length: usize) -> Answer
 }
 
 // Paper 01's number of an answer, and its place.
-#[derive(Drop)]
+#[derive(Clone, Copy)]
 pub struct Told(pub u8, pub Place);
 
 pub fn told_of(answer: Answer) -> Told

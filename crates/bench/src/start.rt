@@ -9,7 +9,7 @@ use replay::from_nothing;
 use segment_knowledge::Control as Segment;
 
 // For each of these facts, whether it is forgotten: 0 is for no.
-#[derive(Drop)]
+#[derive(Clone, Copy)]
 pub struct Marks {
     pub position: u8,
     pub data: u8,

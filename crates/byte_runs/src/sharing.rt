@@ -6,7 +6,7 @@ use lamps::{both_lamps, code_of};
 use terms::Place;
 
 // The number of records, and a code of what their bytes have in common.
-#[derive(Drop)]
+#[derive(Clone, Copy)]
 pub struct Common {
     pub count: usize,
     pub code: u16,

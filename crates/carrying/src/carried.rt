@@ -8,7 +8,7 @@ ghost use Rattle.carrying.specs.Carried.{read_as, tested_as};
 use recording::{bits_allowed, fourth_allowed, has_keys, has_switches, switches_allowed};
 use terms::{Event, Part};
 
-#[derive(Drop)]
+#[derive(Clone, Copy)]
 pub enum Carried {
     Yes,
     // Number 6: the part has no such event.

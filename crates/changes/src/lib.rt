@@ -8,7 +8,7 @@ pub use rows::{all_agree, forget, meet, meet_one, meet_run};
 use terms::Address;
 
 // A small value: the row itself is changed once, where it stands.
-#[derive(Drop)]
+#[derive(Clone, Copy)]
 pub enum Change {
     // Every code stays.
     Keep,

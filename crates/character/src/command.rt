@@ -5,7 +5,7 @@ ghost use Rattle.character.specs.Command.{command_of, spare_of, lights_of};
 use crate::Lights;
 use terms::Address;
 
-#[derive(Drop)]
+#[derive(Clone, Copy)]
 pub enum Command {
     // The address in each RAM from which data goes on.
     Dcram(Address),

@@ -6,14 +6,14 @@ mod command;
 pub use command::{Command, command_of};
 use terms::Address;
 
-#[derive(Drop)]
+#[derive(Clone, Copy)]
 pub enum Lights {
     Normal,
     Off,
     On,
 }
 
-#[derive(Drop)]
+#[derive(Clone, Copy)]
 pub enum Position {
     Idle,
     First,
@@ -24,7 +24,7 @@ pub enum Position {
 }
 
 // A chip: a value for every fact. Column k of character n stands at 5 n + k of cgram.
-#[derive(Drop)]
+#[derive(Clone, Copy)]
 pub struct Character {
     pub dcram: [u8; 16],
     pub cgram: [u8; 40],
@@ -41,7 +41,7 @@ pub struct Character {
 }
 
 // Which facts a move leaves as anything: all of a sort.
-#[derive(Drop)]
+#[derive(Clone, Copy)]
 pub struct Anything {
     pub memory: bool,
     pub settings: bool,
@@ -56,7 +56,7 @@ pub const NONE: Anything = Anything {
 };
 
 // The chip after a move, and which of its facts are anything: those stand there as they were.
-#[derive(Drop)]
+#[derive(Clone, Copy)]
 pub struct Moved {
     pub chip: Character,
     pub any: Anything,

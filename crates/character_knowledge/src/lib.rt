@@ -12,7 +12,7 @@ use fact::Single;
 pub use numbers::{ADRAM, CGRAM, DCRAM, FIRST, IDLE, IGNORING, NORMAL, OFF, ON};
 
 // What is known beside the memory: what an event goes by, small enough to be handed on by value. The port is a code of `lamps`, bit by bit.
-#[derive(Drop)]
+#[derive(Clone, Copy)]
 pub struct Control {
     pub dcram_at: Pointing,
     pub cgram_at: Pointing,
@@ -54,7 +54,7 @@ pub fn at(c: Control, place: u8) -> Control
 
 // What is known of a panel: its memory, and all else. A cell of a RAM is a code of `lamps`, bit by bit; column k of
 // character n stands at 5 n + k of cgram.
-#[derive(Drop)]
+#[derive(Clone, Copy)]
 pub struct Knowledge {
     pub dcram: [u16; 16],
     pub cgram: [u16; 40],

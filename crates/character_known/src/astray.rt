@@ -5,7 +5,7 @@ ghost use Rattle.character_known.specs.Ram.{Gone};
 use character_knowledge::{ADRAM, CGRAM, Control, DCRAM, Pointing};
 use fact::Single;
 
-#[derive(Drop)]
+#[derive(Clone, Copy)]
 pub enum Astray {
     // Anywhere in DCRAM, CGRAM, ADRAM.
     Shown,

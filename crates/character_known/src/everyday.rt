@@ -27,7 +27,7 @@ pub fn rises(c: Control) -> Control
 }
 
 // Where a byte goes, as far as the events of every day ask.
-#[derive(Drop)]
+#[derive(Clone, Copy)]
 pub enum Target {
     // To this cell of DCRAM.
     Shown(Address),

@@ -10,7 +10,7 @@ use character_knowledge::{Control, no_control};
 pub use join::both_pointing;
 
 // The facts beside the memory, and what happens to the memory.
-#[derive(Drop)]
+#[derive(Clone, Copy)]
 pub struct Step {
     pub control: Control,
     pub dcram: Change,

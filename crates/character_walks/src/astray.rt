@@ -11,7 +11,7 @@ use lamps::{EIGHT, SEVEN, TWO, cut};
 use terms::{Event, Place};
 
 // What is known beside the memory behind the bytes that were taken, and how many they are.
-#[derive(Drop)]
+#[derive(Clone, Copy)]
 pub struct Strayed {
     pub control: Control,
     pub count: usize,

@@ -11,7 +11,7 @@ use lamps::{EIGHT, both_lamps, code_of};
 use terms::Place;
 
 // The number of bytes and a code of what they have in common; and how many cells of each RAM meet that, from the first on.
-#[derive(Drop)]
+#[derive(Clone, Copy)]
 pub struct Gathered {
     pub control: Control,
     pub count: usize,

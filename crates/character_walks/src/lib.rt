@@ -22,7 +22,7 @@ use stored_runs::put_run;
 use terms::{Part, Place};
 
 // How the walk ended, and the knowledge after all events before that.
-#[derive(Drop)]
+#[derive(Clone, Copy)]
 pub struct CharacterWalked {
     pub ending: Ending,
     pub k: Knowledge,

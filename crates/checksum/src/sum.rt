@@ -5,7 +5,7 @@ ghost use Rattle.checksum.specs.Sum.{taken, all_taken, fact_code};
 use fact::Single;
 use terms::Place;
 
-#[derive(Drop)]
+#[derive(Clone, Copy)]
 pub struct Sum(pub u32);
 
 impl Sum {

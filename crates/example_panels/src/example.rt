@@ -2,7 +2,7 @@
 use crate::memory::{put, repeat};
 use example_text::Word;
 
-#[derive(Drop)]
+#[derive(Clone, Copy)]
 pub struct Example {
     // The first letter of the section that it stands in: events, recordings, packets, updates or temperatures.
     pub section: u8,

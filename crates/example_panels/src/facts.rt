@@ -1,14 +1,14 @@
 // What the words of a line tell, before a panel is made of it: the code of each fact. A single fact is a number below 256, and 256 where it is unknown;
 // memory, LED and port have the codes of `lamps`.
 
-#[derive(Drop)]
+#[derive(Clone, Copy)]
 pub struct Told {
     pub segment: Segments,
     pub character: Characters,
 }
 
 // Of PT6312 and PT6315. An address that is invalid is 257.
-#[derive(Drop)]
+#[derive(Clone, Copy)]
 pub struct Segments {
     pub cells: [u16; 36],
     pub keys: [u16; 4],
@@ -25,7 +25,7 @@ pub struct Segments {
 }
 
 // Of PT6302.
-#[derive(Drop)]
+#[derive(Clone, Copy)]
 pub struct Characters {
     pub dcram: [u16; 16],
     pub cgram: [u16; 40],

@@ -2,7 +2,7 @@
 use recording::body_of;
 use terms::Event;
 
-#[derive(Drop)]
+#[derive(Clone, Copy)]
 pub struct Line {
     pub part: u8,
     // Whether the part byte was read.

@@ -1,5 +1,5 @@
 // A line's words, character by character. A word is a byte in hex, or a name that may have numbers in hex: as cell07=09, cell07=09/F6, cell07? or @0007.
-#[derive(Drop)]
+#[derive(Clone, Copy)]
 pub struct Word {
     // The first character that is part of no number; 0 where nothing was read, and the digit 0 where only digits were.
     pub name: u8,

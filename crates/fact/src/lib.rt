@@ -11,14 +11,14 @@ ghost use Rattle.fact.specs.View.{stands};
 use terms::Address;
 
 // Known, with its value's number, or unknown.
-#[derive(Drop)]
+#[derive(Clone, Copy)]
 pub enum Single {
     Known(u8),
     Unknown,
 }
 
 // The same of an address that is always a cell, as those of PT6302 are.
-#[derive(Drop)]
+#[derive(Clone, Copy)]
 pub enum Pointing {
     At(Address),
     Unknown,

@@ -12,7 +12,7 @@ use panel::Panel;
 pub use tests::tried;
 
 // The knowledge after the last good record, the bytes of a record that is not whole yet, the number of all bytes so far, and the standing refusal.
-#[derive(Drop)]
+#[derive(Clone, Copy)]
 pub struct Feed {
     pub panel: Panel,
     pub unfinished: Unfinished,

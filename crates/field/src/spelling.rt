@@ -4,7 +4,7 @@ ghost use Rattle.field.specs.Field.{is_digit, all_dashes, is_number, digit_in, h
 ghost use Rattle.field.specs.Said.{said};
 
 // Five cells in a row.
-#[derive(Drop)]
+#[derive(Clone, Copy)]
 pub struct Five {
     pub sign: u8,
     pub tens: u8,
@@ -14,7 +14,7 @@ pub struct Five {
 }
 
 // What is told of a field.
-#[derive(Drop)]
+#[derive(Clone, Copy)]
 pub enum Field {
     // So many half degrees, below nought or not.
     Reads(bool, u8),

@@ -11,7 +11,7 @@ use fact::Single;
 use field::Five;
 use terms::Address;
 
-#[derive(Drop)]
+#[derive(Clone, Copy)]
 pub enum Row {
     Known(Five),
     Unknown,

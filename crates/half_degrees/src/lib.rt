@@ -14,7 +14,7 @@ pub fn degrees(negative: bool, halves: u8) -> f32
 }
 
 // Below nought or not, and how many half degrees.
-#[derive(Drop)]
+#[derive(Clone, Copy)]
 pub struct Halves(pub bool, pub u8);
 
 // The sign of a float that is some half degrees, and how many it is.

@@ -8,7 +8,7 @@ use panel::Panel;
 use terms::{Event, Part, PartRead, part_of};
 
 // The answer, and the knowledge: after the event where it is done, else as it was handed in.
-#[derive(Drop)]
+#[derive(Clone, Copy)]
 pub struct Heard {
     pub answer: Answer,
     pub panel: Panel,

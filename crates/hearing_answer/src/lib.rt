@@ -8,7 +8,7 @@ use panel_ranges::in_range;
 use terms::{Event, Part, Place};
 
 // Done, or why not: number 1, 2, 6 or 8 at its place.
-#[derive(Drop)]
+#[derive(Clone, Copy)]
 pub enum Answer {
     Done,
     NoPart(Place),

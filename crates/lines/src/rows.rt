@@ -31,7 +31,7 @@ pub fn line(out: &mut [u8], at: usize, full: u8, name: &[u8], codes: &[u16]) -> 
 }
 
 // How lines are named: by the address of the first cell, or by the number of the character.
-#[derive(Drop)]
+#[derive(Clone, Copy)]
 pub enum Names {
     Addresses,
     Characters,

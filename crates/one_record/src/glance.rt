@@ -4,7 +4,7 @@ ghost use Rattle.one_record.specs.Glance.{Shows};
 
 use terms::Place;
 
-#[derive(Drop)]
+#[derive(Clone, Copy)]
 pub enum Everyday {
     // The strobe falls.
     Falls,

@@ -10,7 +10,7 @@ use panel::Panel;
 use terms::Part;
 
 // The answer, and what is kept of the panel after the packet.
-#[derive(Drop)]
+#[derive(Clone, Copy)]
 pub struct Taken {
     pub answer: Answer,
     pub feed: Feed,

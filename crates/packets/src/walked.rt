@@ -11,7 +11,7 @@ use segment_walks::segment_walk;
 use terms::Part;
 
 // How the walk ended, and the knowledge after all events before that.
-#[derive(Drop)]
+#[derive(Clone, Copy)]
 pub struct PanelWalked {
     pub ending: Ending,
     pub panel: Panel,

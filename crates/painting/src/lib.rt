@@ -7,7 +7,7 @@ use segment::Display;
 use terms::Place;
 
 // A picture of a PT6312 or PT6315 panel: its memory and the settings that a painting sets.
-#[derive(Drop)]
+#[derive(Clone, Copy)]
 pub struct SegmentPicture {
     // PT6312 uses the first 22.
     pub cells: [u8; 36],
@@ -18,7 +18,7 @@ pub struct SegmentPicture {
 }
 
 // A picture of a PT6302 panel. Column k of character n stands at 5 n + k of cgram.
-#[derive(Drop)]
+#[derive(Clone, Copy)]
 pub struct CharacterPicture {
     pub dcram: [u8; 16],
     pub cgram: [u8; 40],
@@ -30,14 +30,14 @@ pub struct CharacterPicture {
 }
 
 // A picture for either kind of panel; a painting looks at the one that its part byte asks for.
-#[derive(Drop)]
+#[derive(Clone, Copy)]
 pub struct Picture {
     pub segment: SegmentPicture,
     pub character: CharacterPicture,
 }
 
 // What a painting comes to.
-#[derive(Drop)]
+#[derive(Clone, Copy)]
 pub enum Painted {
     // Painted: the length of the recording that was written.
     Done(Place),

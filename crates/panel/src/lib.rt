@@ -3,7 +3,7 @@ ghost use Rattle.std.specs.Prelude.{◌≡◌};
 ghost use Rattle.panel.specs.View.{KnowsNothing};
 
 // What is known of a panel. Its part byte stands beside it, and says which half speaks of it; the other half is kept as it is.
-#[derive(Drop)]
+#[derive(Clone, Copy)]
 pub struct Panel {
     pub segment: segment_knowledge::Knowledge,
     pub character: character_knowledge::Knowledge,

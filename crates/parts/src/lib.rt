@@ -6,7 +6,7 @@ ghost use Rattle.parts.specs.Kind.{part_is};
 use segment::Family;
 use terms::Part;
 
-#[derive(Drop)]
+#[derive(Clone, Copy)]
 pub enum Kind {
     // PT6302.
     Character,

@@ -7,7 +7,7 @@ ghost use Rattle.read_answer.specs.Answer.{told_by};
 // errno of a call that a signal interrupted.
 const EINTR: i32 = 4;
 
-#[derive(Drop)]
+#[derive(Clone, Copy)]
 pub enum Input {
     // The input is read to its end: so many bytes stand at the front of the buffer.
     Whole(usize),
@@ -17,7 +17,7 @@ pub enum Input {
     Failed,
 }
 
-#[derive(Drop)]
+#[derive(Clone, Copy)]
 pub enum Next {
     // So many more bytes came, and not none.
     Came(usize),

@@ -11,7 +11,7 @@ use segment_walks::segment_walk;
 use terms::{Part, Place};
 
 // The answer, and the knowledge: after the recording where it is done, else as it was handed in.
-#[derive(Drop)]
+#[derive(Clone, Copy)]
 pub struct Replayed {
     pub answer: Answer,
     pub panel: Panel,

@@ -8,7 +8,7 @@ use replay_tests::tried;
 use segment::Family;
 use terms::{Part, PartRead, Place, part_of};
 
-#[derive(Drop)]
+#[derive(Clone, Copy)]
 pub enum Way {
     Refused(Answer),
     Characters,

@@ -8,7 +8,7 @@ use segment_sent::{Sending, sent_next};
 use terms::{Part, PartRead, Place, part_of};
 
 // The byte, not driven or unknown; or why there is no report, and then it is unknown: number 1, for PT6302 too, or 2.
-#[derive(Drop)]
+#[derive(Clone, Copy)]
 pub enum Report {
     Is(Sending),
     NoPart(Place),

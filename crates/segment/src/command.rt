@@ -1,7 +1,7 @@
 // What a first byte can say.
 use crate::{Data, Display, Pointer, Stepping};
 
-#[derive(Drop)]
+#[derive(Clone, Copy)]
 pub enum Command {
     // The mode code.
     Mode(u8),

@@ -12,14 +12,14 @@ pub use command::Command;
 pub use stepped::behind;
 use terms::Address;
 
-#[derive(Drop)]
+#[derive(Clone, Copy)]
 pub enum Family {
     Pt6312,
     Pt6315,
 }
 
 // The numbers in which the parts differ.
-#[derive(Drop)]
+#[derive(Clone, Copy)]
 pub struct Sizes {
     // Memory cells.
     pub cells: u8,
@@ -65,14 +65,14 @@ impl Family {
 }
 
 // Where the next data byte goes.
-#[derive(Drop)]
+#[derive(Clone, Copy)]
 pub enum Pointer {
     At(Address),
     Invalid,
 }
 
 // What a byte behind a data setting does. PT6315 has no ReadSwitches.
-#[derive(Drop)]
+#[derive(Clone, Copy)]
 pub enum Data {
     WriteDisplay,
     WriteLed,
@@ -80,19 +80,19 @@ pub enum Data {
     ReadSwitches,
 }
 
-#[derive(Drop)]
+#[derive(Clone, Copy)]
 pub enum Stepping {
     Increment,
     Fixed,
 }
 
-#[derive(Drop)]
+#[derive(Clone, Copy)]
 pub enum Display {
     Off,
     On,
 }
 
-#[derive(Drop)]
+#[derive(Clone, Copy)]
 pub enum Position {
     Idle,
     First,
@@ -102,7 +102,7 @@ pub enum Position {
 
 // A chip: a value for every fact. PT6312 uses 22 cells and three key bytes, PT6315 no switches; what else stands there is
 // no fact of the part, and no move changes it.
-#[derive(Drop)]
+#[derive(Clone, Copy)]
 pub struct Segment {
     pub cells: [u8; 36],
     pub address: Pointer,
@@ -119,7 +119,7 @@ pub struct Segment {
 }
 
 // Which facts a move leaves as anything: all of a sort, or the data mode alone.
-#[derive(Drop)]
+#[derive(Clone, Copy)]
 pub struct Anything {
     pub memory: bool,
     pub data: bool,
@@ -138,14 +138,14 @@ pub const NONE: Anything = Anything {
 };
 
 // The chip after a move, and which of its facts are anything: those stand there as they were.
-#[derive(Drop)]
+#[derive(Clone, Copy)]
 pub struct Moved {
     pub chip: Segment,
     pub any: Anything,
 }
 
 // What the chip sends next, if it drives the line.
-#[derive(Drop)]
+#[derive(Clone, Copy)]
 pub enum Sent {
     Byte(u8),
     NotDriven,

@@ -21,7 +21,7 @@ use stored_runs::put_run;
 use terms::{Event, Place};
 
 // The place of the first record that is not of every day, or the end, and what is known there beside the cells.
-#[derive(Drop)]
+#[derive(Clone, Copy)]
 pub struct Went {
     pub at: Place,
     pub control: Control,

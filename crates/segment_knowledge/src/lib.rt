@@ -15,7 +15,7 @@ pub use numbers::{
 use terms::Address;
 
 // The address: a cell, invalid, or unknown.
-#[derive(Drop)]
+#[derive(Clone, Copy)]
 pub enum Pointing {
     At(Address),
     Invalid,
@@ -23,7 +23,7 @@ pub enum Pointing {
 }
 
 // What is known beside the memory: what an event goes by, small enough to be handed on by value. The LED is a code of `lamps`, bit by bit. A key byte that is 256 is unknown, and one below is known to be that.
-#[derive(Drop)]
+#[derive(Clone, Copy)]
 pub struct Control {
     pub address: Pointing,
     pub data: Single,
@@ -78,7 +78,7 @@ pub fn with_data(c: Control, mode: u8) -> Control
 }
 
 // What is known of a panel: its memory, and all else. A cell is a code of `lamps`, bit by bit: 0 knows nothing.
-#[derive(Drop)]
+#[derive(Clone, Copy)]
 pub struct Knowledge {
     pub cells: [u16; 36],
     pub control: Control,

@@ -43,7 +43,7 @@ pub fn byte_in(family: Family, c: Control, byte: u8) -> Step
 }
 
 // All that a data byte may change.
-#[derive(Drop)]
+#[derive(Clone, Copy)]
 pub struct Written {
     pub address: Pointing,
     pub led: u16,

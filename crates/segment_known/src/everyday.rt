@@ -38,7 +38,7 @@ pub fn rises(c: Control) -> Control
 }
 
 // Where bytes go that are clocked in, as far as the events of every day ask.
-#[derive(Drop)]
+#[derive(Clone, Copy)]
 pub enum Target {
     // To this cell, and the next byte to the one behind it, round the ring.
     Cell(Address),

@@ -13,7 +13,7 @@ use segment_knowledge::{INCREMENT, Pointing};
 use terms::Address;
 
 // The address behind the byte, and what happens to the cells.
-#[derive(Drop)]
+#[derive(Clone, Copy)]
 pub struct Stored {
     pub address: Pointing,
     pub change: Change,

@@ -12,7 +12,7 @@ use segment::Family;
 use segment_knowledge::{Control, no_control};
 
 // The facts beside the memory, and what happens to the memory.
-#[derive(Drop)]
+#[derive(Clone, Copy)]
 pub struct Step {
     pub control: Control,
     pub change: Change,

@@ -15,7 +15,7 @@ use terms::{Address, Place};
 use updating::Updated;
 
 // The cell behind the last run that was sent, which is where the address stands then.
-#[derive(Drop)]
+#[derive(Clone, Copy)]
 pub enum Behind {
     Cell(Address),
     // Refused, or nothing to change.
@@ -23,7 +23,7 @@ pub enum Behind {
 }
 
 // What an update came to, and where it ended.
-#[derive(Drop)]
+#[derive(Clone, Copy)]
 pub struct Sending {
     pub answer: Updated,
     pub behind: Behind,

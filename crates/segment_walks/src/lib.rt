@@ -11,7 +11,7 @@ use segment_known::taken;
 use terms::{Part, Place};
 
 // How the walk ended, and the knowledge after all events before that.
-#[derive(Drop)]
+#[derive(Clone, Copy)]
 pub struct SegmentWalked {
     pub ending: Ending,
     pub k: Knowledge,

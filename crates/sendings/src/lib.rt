@@ -2,7 +2,7 @@
 ghost use Rattle.knowing.specs.Ways.{Joins};
 ghost use Rattle.sendings.specs.Report.{reports};
 
-#[derive(Drop)]
+#[derive(Clone, Copy)]
 pub enum Sending {
     // All chips that fit send this byte.
     Byte(u8),

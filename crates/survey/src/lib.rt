@@ -7,7 +7,7 @@ ghost use Rattle.lamps.specs.View.{shown};
 use lamps::holds;
 
 // How many cells differ, in how many runs, and the front: how many cells from 00H on end a run that goes round.
-#[derive(Drop)]
+#[derive(Clone, Copy)]
 pub struct Survey {
     pub cells: usize,
     pub runs: usize,

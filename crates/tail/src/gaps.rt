@@ -10,7 +10,7 @@ use tail_starts::behind;
 use terms::{Part, Place};
 
 // The answer, and where the tail starts and ends in the recording: refused, it is the empty part at the front.
-#[derive(Drop)]
+#[derive(Clone, Copy)]
 pub struct Found {
     pub answer: Answer,
     pub start: Place,

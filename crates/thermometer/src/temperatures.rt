@@ -12,7 +12,7 @@ use panel::Panel;
 use terms::{Address, Part, PartRead, Place, part_of};
 
 // A reading in degrees, or why there is none; or why there is no answer, and then it is unknown: number 1, for another part than PT6302, too, 2, or 11.
-#[derive(Drop)]
+#[derive(Clone, Copy)]
 pub enum Answer {
     Reading(f32),
     NoReading,

@@ -12,7 +12,7 @@ use panel::Panel;
 use segment_knowledge::{Control, INCREMENT, WRITE_DISPLAY};
 use terms::Place;
 
-#[derive(Drop)]
+#[derive(Clone, Copy)]
 pub enum Updated {
     // Sent: the length of the recording that was written, and how many of its bytes go over the wire.
     Done(Place, usize),
@@ -25,7 +25,7 @@ pub enum Updated {
 }
 
 // What an update came to, and what is known when its bytes have gone out: as it was handed in, where it was refused.
-#[derive(Drop)]
+#[derive(Clone, Copy)]
 pub struct Refreshed {
     pub answer: Updated,
     pub panel: Panel,
