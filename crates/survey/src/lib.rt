@@ -1,4 +1,6 @@
 // What is counted of cells around a ring, one by one, and what is found behind the last.
+#![tactic(auto)]
+
 ghost use Rattle.std.specs.Prelude.{◌≡◌, not, ◌&&◌, ◌+◌, ◌<◌, eqb};
 ghost use Rattle.rules.specs.Choice.{whether};
 ghost use Rattle.knowing.specs.Holds.{holds};
