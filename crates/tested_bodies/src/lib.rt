@@ -1,4 +1,6 @@
 // The records whose body values are tested, read as code: 06, 07 and 08, which number 8 is about. The place is within the bytes, and its kind is known.
+#![tactic(auto)]
+
 ghost use Rattle.std.specs.Prelude.{◌≡◌, ◌<◌, length, get_or, drop};
 ghost use Rattle.terms.specs.declared.Part.{Part};
 ghost use Rattle.recording.specs.Record.{front};
