@@ -1,4 +1,6 @@
 // What an event does to a row of codes: a small value, and the loops by which codes lose what is no longer known. `applying` makes a change where the row stands.
+#![tactic(auto)]
+
 mod rows;
 
 ghost use Rattle.std.specs.Prelude.{◌≡◌};
