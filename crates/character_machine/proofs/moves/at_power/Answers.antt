@@ -5,13 +5,9 @@ use mathlib.Core.Path.{refl, sym}
 use lib.Bits.{or_zero_r}
 use Rattle.character.specs.Laws.{every, port_set}
 use Rattle.rules.specs.Change.{keep}
-use Rattle.character_machine.proofs.moves.at_power.Statement.{statement}
-use Rattle.character_machine.proofs.moves.at_power.Tie as tie
+use Rattle.character_machine.proofs.moves.at_power.Goals as goal
 
-returns : tie.Need-returns
+pub returns : goal.returns
 returns c =
-    let a = c.before.before.before.before.before.args in
+    let a = c.args in
     every _ (λ i k. refl) (λ i k. refl) (λ i k. refl) refl refl refl refl (λ k. port_set a.chip keep _ 0 k refl (sym (or_zero_r _))) refl refl refl refl
-
-pub at_power_spec : {M : Type 1} → statement M
-at_power_spec = tie.close (tie.spec returns)
