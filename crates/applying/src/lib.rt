@@ -1,4 +1,6 @@
 // A change made to a row of codes, where the row stands. `wide` has the bits of the width, as `lamps` has them.
+#![tactic(auto)]
+
 ghost use Rattle.std.specs.Prelude.{ℕ, ◌<◌, length};
 ghost use Rattle.lamps.specs.View.{Wide};
 ghost use Rattle.changes.specs.Change.{Inside, Changes};
