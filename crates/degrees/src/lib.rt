@@ -1,4 +1,6 @@
 // Degrees for people, of a float that is some half degrees.
+#![tactic(auto)]
+
 ghost use Rattle.writing.specs.Writes.{Writes};
 ghost use Rattle.half_degrees.specs.Half.{Halved};
 ghost use Rattle.degrees.specs.Degrees.{sized, Degrees};
