@@ -1,4 +1,6 @@
 // The line of a refusal, which every program prints alike.
+#![tactic(auto)]
+
 ghost use Rattle.writing.specs.Writes.{Writes};
 ghost use Rattle.refusals.specs.Refusal.{refused_at};
 
