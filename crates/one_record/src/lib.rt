@@ -1,5 +1,7 @@
 // One record read, as code: the event at a place of a recording and its length, or why it is none. The records of every day are also told by a glance,
 // which asks for no part and hands on no more than a walk needs.
+#![tactic(auto)]
+
 mod glance;
 
 ghost use Rattle.std.specs.Prelude.{◌≡◌, ◌<◌, length, drop};
