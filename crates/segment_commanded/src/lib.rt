@@ -1,4 +1,6 @@
 // PT6312's and PT6315's commands: what each does to a chip.
+#![tactic(auto)]
+
 mod commands;
 mod positions;
 

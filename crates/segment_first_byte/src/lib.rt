@@ -1,4 +1,6 @@
 // The reading of a first byte as a command of PT6312 or PT6315.
+#![tactic(auto)]
+
 ghost use Rattle.std.specs.Prelude.{◌≡◌};
 ghost use Rattle.segment.specs.Command.{command_of, mode_of, stepping_of, setting_of, display_of, pointer_of};
 ghost use Rattle.segment.specs.Family.{sizes};

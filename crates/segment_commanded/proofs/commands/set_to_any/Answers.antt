@@ -2,11 +2,7 @@
 -- Assumes nothing.
 use mathlib.Core.Path.{refl}
 use Rattle.segment.specs.Laws.{every}
-use Rattle.segment_commanded.proofs.commands.set_to_any.Statement.{statement}
-use Rattle.segment_commanded.proofs.commands.set_to_any.Tie as tie
+use Rattle.segment_commanded.proofs.commands.set_to_any.Goals as goal
 
-returns : tie.Need-returns
+pub returns : goal.returns
 returns c = every _ (λ i k. refl) refl refl refl refl refl refl (λ k. refl) (λ i. refl) refl refl refl
-
-pub set_to_any_spec : {M : Type 1} → statement M
-set_to_any_spec = tie.close (tie.spec returns)

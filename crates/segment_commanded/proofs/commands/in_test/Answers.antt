@@ -2,11 +2,7 @@
 -- Assumes nothing.
 use mathlib.Core.Path.{refl}
 use Rattle.segment.specs.Laws.{every, led_tested}
-use Rattle.segment_commanded.proofs.commands.in_test.Statement.{statement}
-use Rattle.segment_commanded.proofs.commands.in_test.Tie as tie
+use Rattle.segment_commanded.proofs.commands.in_test.Goals as goal
 
-returns : tie.Need-returns
+pub returns : goal.returns
 returns c = every _ (λ i k. refl) refl refl refl refl refl refl (λ k. rw (led_tested k) refl) (λ i. refl) refl refl refl
-
-pub in_test_spec : {M : Type 1} → statement M
-in_test_spec = tie.close (tie.spec returns)

@@ -1,0 +1,17 @@
+-- `segment_first_byte::mode_of` meets its contract: each arm knows its part, and the rest is arithmetic.
+-- Assumes nothing.
+use Rattle.segment.specs.Family.{sizes}
+use native.Mathlib.Omega.{arith}
+use Rattle.segment_first_byte.proofs.mode_of.Goals as goal
+
+pub returns-in-Pt6312 : goal.returns-in-Pt6312
+unfolding sizes
+returns-in-Pt6312 c = rw c.in-Pt6312.is (omega arith)
+
+pub returns-then-byte-lt8 : goal.returns-then-byte-lt8
+unfolding sizes
+returns-then-byte-lt8 c = rw c.in-Pt6315.is (omega arith)
+
+pub returns-else-byte-lt8 : goal.returns-else-byte-lt8
+unfolding sizes
+returns-else-byte-lt8 c = rw c.in-Pt6315.is (omega arith)
