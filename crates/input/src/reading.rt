@@ -2,18 +2,19 @@
 ghost use Rattle.std.specs.Prelude.{◌<◌, length};
 ghost use Rattle.input.specs.Reading.{Goes, Reads};
 
-use libc::STDIN_FILENO;
-use read_answer::{Input, Next, told};
+use read_answer::{EINTR, Input, Next, told};
+use std::io;
+use std::io::{ErrorKind, Read};
 
-// Reads standard input into a buffer. An interrupted call is made again: a proved loop has to end, so these are counted down from a number that no run
+// Reads a stream into a buffer. An interrupted call is made again: a proved loop has to end, so these are counted down from a number that no run
 // uses up.
-pub fn read_input(buffer: &mut [u8]) -> Input
+pub fn read_input<R: Read>(stream: &mut R, buffer: &mut [u8]) -> Input
     ensures { Reads buffer.old result buffer.new }
 {
     let mut done = 0;
     let mut interruptions = u64::MAX;
     while done < buffer.len() {
-        match read_on(buffer, done) {
+        match read_on(stream, buffer, done) {
             Next::Came(n) => done += n,
             Next::Interrupted => {
                 if interruptions == 0 {
@@ -28,10 +29,22 @@ pub fn read_input(buffer: &mut [u8]) -> Input
 }
 
 // One call, for what comes behind the bytes that came before, which stay.
-fn read_on(buffer: &mut [u8], before: usize) -> Next
+fn read_on<R: Read>(stream: &mut R, buffer: &mut [u8], before: usize) -> Next
     requires { before < length buffer.old }
     ensures { Goes buffer.old before result buffer.new }
 {
-    let answer = libc::read(STDIN_FILENO, &mut buffer[before..]);
-    told(answer, os::errno(), before)
+    let (answer, error) = match stream.read(&mut buffer[before..]) {
+        Ok(n) => (n as isize, 0),
+        Err(e) => (-1, errno_of(e)),
+    };
+    told(answer, error, before)
+}
+
+// Of a stream's errors only an interruption is told from the others.
+fn errno_of(error: io::Error) -> i32 {
+    if error.kind() == ErrorKind::Interrupted {
+        EINTR
+    } else {
+        0
+    }
 }

@@ -5,7 +5,7 @@ ghost use Rattle.std.specs.Prelude.{◌≡◌};
 ghost use Rattle.read_answer.specs.Answer.{told_by};
 
 // errno of a call that a signal interrupted.
-const EINTR: i32 = 4;
+pub const EINTR: i32 = 4;
 
 #[derive(Clone, Copy)]
 pub enum Input {
