@@ -1,4 +1,6 @@
 // What is known of a PT6302 panel, as a value.
+#![tactic(auto)]
+
 mod numbers;
 
 ghost use Rattle.std.specs.Prelude.{◌≡◌};
