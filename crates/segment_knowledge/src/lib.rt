@@ -1,4 +1,6 @@
 // What is known of a PT6312 or PT6315 panel, as a value.
+#![tactic(auto)]
+
 mod numbers;
 
 ghost use Rattle.std.specs.Prelude.{◌≡◌, ℕ};

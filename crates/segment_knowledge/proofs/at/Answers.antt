@@ -2,11 +2,7 @@
 -- Assumes nothing.
 use mathlib.Core.Path.{refl}
 use Rattle.segment.specs.Laws.{every}
-use Rattle.segment_knowledge.proofs.at.Statement.{statement}
-use Rattle.segment_knowledge.proofs.at.Tie as tie
+use Rattle.segment_knowledge.proofs.at.Goals as goal
 
-returns : tie.Need-returns
+pub returns : goal.returns
 returns c = λ cells. every _ (λ i k. refl) refl refl refl refl refl refl (λ k. refl) (λ i. refl) refl refl refl
-
-pub at_spec : {M : Type 1} → statement M
-at_spec = tie.close (tie.spec returns)

@@ -2,11 +2,7 @@
 -- Assumes nothing.
 use mathlib.Core.Path.{refl}
 use Rattle.segment.specs.Laws.{every}
-use Rattle.segment_knowledge.proofs.with_data.Statement.{statement}
-use Rattle.segment_knowledge.proofs.with_data.Tie as tie
+use Rattle.segment_knowledge.proofs.with_data.Goals as goal
 
-returns : tie.Need-returns
+pub returns : goal.returns
 returns c = λ cells. every _ (λ i k. refl) refl refl refl refl refl refl (λ k. refl) (λ i. refl) refl refl refl
-
-pub with_data_spec : {M : Type 1} → statement M
-with_data_spec = tie.close (tie.spec returns)

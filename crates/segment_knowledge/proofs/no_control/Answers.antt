@@ -5,11 +5,7 @@ use Rattle.segment.specs.Laws.{every}
 use Rattle.key_codes.specs.View.{coded}
 use Rattle.rules.specs.Unique.{get_d_same}
 use Rattle.lamps.specs.Lamp.{none_shown}
-use Rattle.segment_knowledge.proofs.no_control.Statement.{statement}
-use Rattle.segment_knowledge.proofs.no_control.Tie as tie
+use Rattle.segment_knowledge.proofs.no_control.Goals as goal
 
-returns : tie.Need-returns
+pub returns : goal.returns
 returns c = every _ (λ i k. refl) refl refl refl refl refl refl (λ k. none_shown 4 k) (λ i. ap coded (get_d_same 4 i 256)) refl refl refl
-
-pub no_control_spec : {M : Type 1} → statement M
-no_control_spec = tie.close (tie.spec returns)
