@@ -1,4 +1,6 @@
 // The wanted picture of a panel, by value, and what a painting of it comes to. What paints it, and that this leads every chip to the picture, stands in specs/.
+#![tactic(auto)]
+
 ghost use Rattle.std.specs.Prelude.{◌≡◌, eqb};
 ghost use Rattle.painting.specs.Answer.{judged as judgedAs, number};
 
