@@ -1,4 +1,6 @@
 // What a call that reads a recording answers.
+#![tactic(auto)]
+
 ghost use Rattle.std.specs.Prelude.{◌≡◌};
 ghost use Rattle.answers.specs.Answer.{refused_as, number, place};
 ghost use Rattle.answers.specs.Ended.{Inside, ended_as};
