@@ -5,52 +5,59 @@
 // numbers from 0 on. A number that has no name is written in decimal.
 use crate::parts::part;
 use crate::print::{comma, decimal, hex, text};
+use std::io;
 
 // Writes the facts of a row from one up to another. Where not all are asked for, the unknown ones are left out and a comma leads up to each.
-pub fn show_facts(words: &[u8], codes: [u16; 10], from: usize, to: usize, all: bool) {
-    let mut i = from;
-    while i < to {
+pub fn show_facts(
+    rt: &impl Print,
+    words: &[u8],
+    codes: [u16; 10],
+    from: usize,
+    to: usize,
+    all: bool,
+) -> io::Result<()> {
+    for i in from..to {
         if i < 10 {
-            fact(part(words, b';', i), codes[i], all);
+            fact(rt, part(words, b';', i), codes[i], all)?;
         }
-        i += 1;
     }
+    Ok(())
 }
 
-fn fact(words: &[u8], code: u16, all: bool) {
+fn fact(rt: &impl Print, words: &[u8], code: u16, all: bool) -> io::Result<()> {
     if all {
-        text(part(words, b'|', 0));
+        text(rt, part(words, b'|', 0))?;
     } else {
         if code == 256 {
-            return;
+            return Ok(());
         }
-        comma();
+        comma(rt)?;
     }
-    titled(part(words, b'|', 1), code);
+    titled(rt, part(words, b'|', 1), code)
 }
 
-fn titled(words: &[u8], code: u16) {
-    text(part(words, b'/', 0));
+fn titled(rt: &impl Print, words: &[u8], code: u16) -> io::Result<()> {
+    text(rt, part(words, b'/', 0))?;
     if code < 256 {
-        named(part(words, b'/', code as usize + 1), code);
+        named(rt, part(words, b'/', code as usize + 1), code)
     } else {
-        unnamed(code);
+        unnamed(rt, code)
     }
 }
 
-fn named(name: &[u8], n: u16) {
+fn named(rt: &impl Print, name: &[u8], n: u16) -> io::Result<()> {
     if name.len() == 0 {
-        decimal(n as usize);
+        decimal(rt, n as usize)
     } else {
-        text(name);
+        text(rt, name)
     }
 }
 
-fn unnamed(code: u16) {
+fn unnamed(rt: &impl Print, code: u16) -> io::Result<()> {
     match code {
-        256 => text(b"unknown"),
-        257 => text(b"invalid"),
-        258 => {}
-        _ => hex((code % 256) as u8),
+        256 => text(rt, b"unknown"),
+        257 => text(rt, b"invalid"),
+        258 => Ok(()),
+        _ => hex(rt, (code % 256) as u8),
     }
 }

@@ -1,4 +1,6 @@
 // What the programs that run examples share: lines of hex and words are read, and words and numbers are written.
+#![tactic(auto)]
+
 mod facts;
 mod line;
 mod parts;

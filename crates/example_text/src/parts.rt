@@ -2,6 +2,7 @@
 // slow to check.
 
 ghost use Rattle.std.specs.Prelude.{◌≤◌, length};
+
 // The part behind as many marks and before the next one, which is empty where there are not so many marks.
 pub fn part(text: &[u8], mark: u8, marks: usize) -> &[u8] {
     let from = behind(text, mark, marks);
@@ -13,17 +14,15 @@ fn behind(text: &[u8], mark: u8, marks: usize) -> usize
     ensures { result ≤ length text.now }
 {
     let mut left = marks;
-    let mut i = 0;
-    while i < text.len() {
+    for i in 0..text.len() {
         if left == 0 {
             return i;
         }
         if text[i] == mark {
             left -= 1;
         }
-        i += 1;
     }
-    i
+    text.len()
 }
 
 // The place of the next mark, or behind the text.
@@ -31,12 +30,10 @@ fn next(text: &[u8], mark: u8, from: usize) -> usize
     requires { from ≤ length text.now }
     ensures { (from ≤ result) × (result ≤ length text.now) }
 {
-    let mut i = from;
-    while i < text.len() {
+    for i in from..text.len() {
         if text[i] == mark {
             return i;
         }
-        i += 1;
     }
-    i
+    text.len()
 }

@@ -1,37 +1,35 @@
 // Words and numbers on standard output.
-use libc::STDOUT_FILENO;
+use std::io;
 
 // Writes words as they are.
-pub fn text(words: &[u8]) {
-    io::write_all(STDOUT_FILENO, words);
+pub fn text(rt: &impl Print, words: &[u8]) -> io::Result<()> {
+    rt.write_all(words)
 }
 
 // Writes one character.
-pub fn character(c: u8) {
-    io::write_all(STDOUT_FILENO, &[c]);
+pub fn character(rt: &impl Print, c: u8) -> io::Result<()> {
+    rt.write_all(&[c])
 }
 
 // Writes a comma and a space.
-pub fn comma() {
-    character(b',');
-    character(b' ');
+pub fn comma(rt: &impl Print) -> io::Result<()> {
+    text(rt, b", ")
 }
 
 // Writes a number in decimal.
-pub fn decimal(n: usize) {
-    io::print_decimal(STDOUT_FILENO, n as u64);
+pub fn decimal(rt: &impl Print, n: usize) -> io::Result<()> {
+    print!(rt; "{n}")
 }
 
 // Writes a name and its number.
-pub fn number(name: &[u8], n: usize) {
-    text(name);
-    decimal(n);
+pub fn number(rt: &impl Print, name: &[u8], n: usize) -> io::Result<()> {
+    text(rt, name)?;
+    decimal(rt, n)
 }
 
 // Writes two hex digits, in capitals as paper 01 has them.
-pub fn hex(byte: u8) {
-    character(digit(byte / 16));
-    character(digit(byte % 16));
+pub fn hex(rt: &impl Print, byte: u8) -> io::Result<()> {
+    text(rt, &[digit(byte / 16), digit(byte % 16)])
 }
 
 fn digit(n: u8) -> u8 {
@@ -39,18 +37,15 @@ fn digit(n: u8) -> u8 {
 }
 
 // Writes a space and two hex digits.
-pub fn spaced(byte: u8) {
-    character(b' ');
-    hex(byte);
+pub fn spaced(rt: &impl Print, byte: u8) -> io::Result<()> {
+    character(rt, b' ')?;
+    hex(rt, byte)
 }
 
 // Writes the first bytes of a row in hex, with a space before each.
-pub fn bytes(bytes: &[u8], count: usize) {
-    let mut i = 0;
-    while i < bytes.len() {
-        if i < count {
-            spaced(bytes[i]);
-        }
-        i += 1;
+pub fn bytes(rt: &impl Print, bytes: &[u8], count: usize) -> io::Result<()> {
+    for byte in bytes.iter().take(count) {
+        spaced(rt, *byte)?;
     }
+    Ok(())
 }
