@@ -47,10 +47,10 @@ use Rattle.segment_everyday.specs.Still.{Stills}
 -- A command does what the byte says that it is.
 module _ (p : Family) (b : ℕ) (begun r : Control) (is says : Command) (e : is ≡ command_of (sizes p) b) (f : is ≡ says) where
   pub sets_by : Keeps (sizes p) (commanded says) begun r → Steps (sizes p) (commanded (command_of (sizes p) b)) begun (kept_of r)
-  sets_by h = as_steps (ap commanded (sym e ∙ f)) (kept_steps refl h)
+  sets_by h = as_steps (sizes p) (ap commanded (sym e ∙ f)) (kept_steps (sizes p) refl h)
 
   pub tests_by : Forgets (sizes p) (commanded says) begun r → Steps (sizes p) (commanded (command_of (sizes p) b)) begun (forgotten_of r)
-  tests_by h = as_steps (ap commanded (sym e ∙ f)) (forgotten_steps refl h)
+  tests_by h = as_steps (sizes p) (ap commanded (sym e ∙ f)) (forgotten_steps (sizes p) refl h)
 
 -- A byte in, as a record of the part.
 pub byte_is : (part : Part) (l : List ℕ) (i b : ℕ) → InByte l i b → front part (drop i l) ≡ Is (ByteIn b) 2

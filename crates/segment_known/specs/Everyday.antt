@@ -113,7 +113,7 @@ data_step p c b o h = step_known (sizes p) position (byte_in (sizes p) b) c 2 (�
 pub lights_in : (p : Family) (c r : Control) (b : ℕ) → Lighting c → Keeps (sizes p) (gives (lights b keep)) c r → Steps (sizes p) (move (sizes p) (ByteIn b)) c (kept_of r)
 lights_in p c r b h k =
     step_known (sizes p) position (byte_in (sizes p) b) c 2 (λ cells. h.opened)
-    (step_known (sizes p) data_mode (written (sizes p) b) c 1 (λ cells. h.writing) (kept_steps refl k))
+    (step_known (sizes p) data_mode (written (sizes p) b) c 1 (λ cells. h.writing) (kept_steps (sizes p) refl k))
 
 -- The LED where what a code says may have gone there.
 pub record PerhapsLit (code : ℕ) (c r : Control) : Type 0 where
@@ -168,19 +168,19 @@ module _ (p : Family) (c : Control) where
   -- Neither first byte nor open.
   pub shut_deaf : (place : ℕ) → stands c.position ≡ known place → ¬ (place ≡ at_position First) → ¬ (place ≡ at_position Open) → Deaf (sizes p) c
   shut_deaf place there other more b =
-      step_known (sizes p) position (byte_in (sizes p) b) c place (λ cells. there) (as_steps (other_in _ _ place other more) (kept_steps refl (λ cells f. refl)))
+      step_known (sizes p) position (byte_in (sizes p) b) c place (λ cells. there) (as_steps (sizes p) (other_in _ _ place other more) (kept_steps (sizes p) refl (λ cells f. refl)))
 
   -- Open, and neither write display nor write LED.
   pub reading_deaf : (m : ℕ) → stands c.position ≡ known (at_position Open) → stands c.«data» ≡ known m → ¬ (m ≡ 0) → ¬ (m ≡ 1) → Deaf (sizes p) c
   reading_deaf m o w other more b =
       step_known (sizes p) position (byte_in (sizes p) b) c 2 (λ cells. o)
-      (step_known (sizes p) data_mode (written (sizes p) b) c m (λ cells. w) (as_steps (other_written _ _ m other more) (kept_steps refl (λ cells f. refl))))
+      (step_known (sizes p) data_mode (written (sizes p) b) c m (λ cells. w) (as_steps (sizes p) (other_written _ _ m other more) (kept_steps (sizes p) refl (λ cells f. refl))))
 
   -- Open, write display, and the address invalid.
   invalid_deaf : stands c.position ≡ known (at_position Open) → stands c.«data» ≡ known 0 → points c.address ≡ known 0 → Deaf (sizes p) c
   invalid_deaf o w a b =
       step_known (sizes p) position (byte_in (sizes p) b) c 2 (λ cells. o)
-      (step_known (sizes p) data_mode (written (sizes p) b) c 0 (λ cells. w) (step_known (sizes p) address (stored (sizes p) b) c 0 (λ cells. a) (kept_steps refl (λ cells f. refl))))
+      (step_known (sizes p) data_mode (written (sizes p) b) c 0 (λ cells. w) (step_known (sizes p) address (stored (sizes p) b) c 0 (λ cells. a) (kept_steps (sizes p) refl (λ cells f. refl))))
 
   pub hits_at : (counting : Bool) (r : Target) → stands c.position ≡ known (at_position Open) → stands c.«data» ≡ known (data_mode_of WriteDisplay)
       → (counting ≡ true → stands c.stepping ≡ known (steps Increment)) → HitsAt (sizes p) (points c.address) counting r → Hits (sizes p) c r

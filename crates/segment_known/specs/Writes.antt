@@ -107,10 +107,10 @@ lit_told c b light h cells =
 
 -- A data byte that goes to the LED, nowhere, or to any cell.
 pub writes_led : (s : Sizes) (c : Control) (b light : ℕ) → stands c.«data» ≡ known 1 → Puts 3855 b c.led light → Writes s b c (record { address = c.address; led = light; change = Keep })
-writes_led s c b light w h q = step_known s data_mode (written s b) (placed c q) 1 (λ cells. w) (kept_steps refl (lit_told (placed c q) b light h))
+writes_led s c b light w h q = step_known s data_mode (written s b) (placed c q) 1 (λ cells. w) (kept_steps s refl (lit_told (placed c q) b light h))
 
 pub writes_none : (s : Sizes) (c : Control) (b m : ℕ) → stands c.«data» ≡ known m → ¬ (m ≡ 0) → ¬ (m ≡ 1) → Writes s b c (record { address = c.address; led = c.led; change = Keep })
-writes_none s c b m w other more q = step_known s data_mode (written s b) (placed c q) m (λ cells. w) (as_steps (other_written _ _ m other more) (kept_steps refl (λ cells f. refl)))
+writes_none s c b m w other more q = step_known s data_mode (written s b) (placed c q) m (λ cells. w) (as_steps s (other_written _ _ m other more) (kept_steps s refl (λ cells f. refl)))
 
 pub writes_anywhere : (p : Family) (c : Control) (b : ℕ) → stands c.«data» ≡ known 0 → points c.address ≡ unknown
     → Writes (sizes p) b c (record { address = c.address; led = c.led; change = Meet (record { 0 = 0 }) 1 (sizes p).cells b })
@@ -186,7 +186,7 @@ pointed e h = record {
 -- A byte that is not stored, since the address is not that of a cell.
 pub stored_nowhere : (s : Sizes) (c : Control) (b v : ℕ) (at : Pointing) → points c.address ≡ points at → points at ≡ known v → stored s b v ≡ nothing
     → Steps s (look address (stored s b)) c (record { control = pointing c at; change = Keep })
-stored_nowhere s c b v at e a n = pointed (sym e) (step_known s address (stored s b) c v (λ cells. e ∙ a) (as_steps n (kept_steps refl (λ cells f. refl))))
+stored_nowhere s c b v at e a n = pointed (sym e) (step_known s address (stored s b) c v (λ cells. e ∙ a) (as_steps s n (kept_steps s refl (λ cells f. refl))))
 
 -- The data mode is unknown.
 pub perhaps_written : (p : Family) (c : Control) (b : ℕ) (at : Stored) (next : Pointing) (light : ℕ) → Stores (sizes p) b c.address c.stepping at → stands c.«data» ≡ unknown

@@ -1,4 +1,6 @@
 // A step: what an event makes of a knowledge of PT6312 and PT6315, told in two, the facts beside the memory and what happens to the memory; and what two addresses have in common.
+#![tactic(auto)]
+
 mod join;
 
 ghost use Rattle.std.specs.Prelude.{◌≡◌};

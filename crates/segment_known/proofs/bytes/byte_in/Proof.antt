@@ -46,7 +46,7 @@ returns-3 c = let a = c.before.before.before.before.before.before.args in
 returns-4 : tie.Need-returns-4
 returns-4 c = let a = c.before.before.before.before.before.args in
     let s = sizes a.family in
-    step_known s position (byte_in s a.byte) a.c _ (λ cells. ap stands c.before.before.before.position.given.1) (as_steps (other_in _ _ _ c.before.match2.rest.0.1 c.before.match2.rest.1) (kept_steps c.kept.ensures (λ cells f. refl)))
+    step_known s position (byte_in s a.byte) a.c _ (λ cells. ap stands c.before.before.before.position.given.1) (as_steps s (other_in _ _ _ c.before.match2.rest.0.1 c.before.match2.rest.1) (kept_steps s c.kept.ensures (λ cells f. refl)))
 
 pub byte_in_spec : {M : Type 1} → statement M
 byte_in_spec =

@@ -30,7 +30,7 @@ forgotten-requires c κs = search rules
 returns : tie.Need-returns
 returns c = let a = c.before.before.before.before.before.args in
     let s = sizes a.family in
-    forgotten_steps c.forgotten.ensures (λ cells. as_rule (cview cells) (cview (λ i k. unknown)) same? (range s) _ _ a.c _ (ap commanded (sym c.before.before.before.before.command-of.ensures ∙ c.before.before.enum_told.given.1)) (c.before.in-test.ensures cells))
+    forgotten_steps s c.forgotten.ensures (λ cells. as_rule (cview cells) (cview (λ i k. unknown)) same? (range s) _ _ a.c _ (ap commanded (sym c.before.before.before.before.command-of.ensures ∙ c.before.before.enum_told.given.1)) (c.before.in-test.ensures cells))
 
 enum-known-command : tie.Need-enum-known-command
 enum-known-command c = search rules
@@ -70,11 +70,11 @@ returns-2 : tie.Need-returns-2
 returns-2 c = let a = c.before.before.before.args in
     let s = sizes a.family in
     let e = sym c.before.before.command-of.ensures in
-    ⊎_elim (λ w. as_steps (ap commanded (e ∙ w.1.given.1)) (kept_steps (c.kept.ensures ∙ ap kept_of w.4) w.3.ensures))
-    (⊎_elim (λ w. as_steps (ap commanded (e ∙ w.1.given.1)) (kept_steps (c.kept.ensures ∙ ap kept_of w.4) w.3.ensures))
-    (⊎_elim (λ w. as_steps (ap commanded (e ∙ w.1.given.1)) (kept_steps (c.kept.ensures ∙ ap kept_of w.4) w.3.ensures))
-    (⊎_elim (λ w. as_steps (ap commanded (e ∙ w.1.given.1)) (kept_steps (c.kept.ensures ∙ ap kept_of w.4) w.3.ensures))
-    (λ w. as_steps (ap commanded (e ∙ w.1.given.1)) (kept_steps (c.kept.ensures ∙ ap kept_of w.4) w.3.ensures)))))
+    ⊎_elim (λ w. as_steps s (ap commanded (e ∙ w.1.given.1)) (kept_steps s (c.kept.ensures ∙ ap kept_of w.4) w.3.ensures))
+    (⊎_elim (λ w. as_steps s (ap commanded (e ∙ w.1.given.1)) (kept_steps s (c.kept.ensures ∙ ap kept_of w.4) w.3.ensures))
+    (⊎_elim (λ w. as_steps s (ap commanded (e ∙ w.1.given.1)) (kept_steps s (c.kept.ensures ∙ ap kept_of w.4) w.3.ensures))
+    (⊎_elim (λ w. as_steps s (ap commanded (e ∙ w.1.given.1)) (kept_steps s (c.kept.ensures ∙ ap kept_of w.4) w.3.ensures))
+    (λ w. as_steps s (ap commanded (e ∙ w.1.given.1)) (kept_steps s (c.kept.ensures ∙ ap kept_of w.4) w.3.ensures)))))
     c.before.match.branch
 
 pub first_in_spec : {M : Type 1} → statement M

@@ -20,7 +20,7 @@ forgotten-requires : tie.Need-forgotten-requires
 forgotten-requires c κs = search rules
 
 returns : tie.Need-returns
-returns c = as_steps (ap (move (sizes c.before.before.before.before.args.family)) c.before.before.enum_told.given.1) (forgotten_steps c.forgotten.ensures c.before.at-power.ensures)
+returns c = as_steps s (ap (move (sizes c.before.before.before.before.args.family)) c.before.before.enum_told.given.1) (forgotten_steps s c.forgotten.ensures c.before.at-power.ensures)
 
 enum-known-event : tie.Need-enum-known-event
 enum-known-event c = search rules
@@ -29,7 +29,7 @@ byte-in-requires : tie.Need-byte-in-requires
 byte-in-requires c κs = search rules
 
 returns-2 : tie.Need-returns-2
-returns-2 c = as_steps (ap (move (sizes c.before.before.before.before.args.family)) c.before.before.event.given.1) c.byte-in.ensures
+returns-2 c = as_steps s (ap (move (sizes c.before.before.before.before.args.family)) c.before.before.event.given.1) c.byte-in.ensures
 
 enum-told-2 : tie.Need-enum-told-2
 enum-told-2 c = search rules
@@ -38,7 +38,7 @@ lost-requires : tie.Need-lost-requires
 lost-requires c κs = search rules
 
 returns-3 : tie.Need-returns-3
-returns-3 c = as_steps (ap (move (sizes c.before.before.before.args.family)) c.before.enum-told2.given.1) c.lost.ensures
+returns-3 c = as_steps s (ap (move (sizes c.before.before.before.args.family)) c.before.enum-told2.given.1) c.lost.ensures
 
 enum-told-3 : tie.Need-enum-told-3
 enum-told-3 c = search rules
@@ -81,12 +81,12 @@ kept-requires c κs = search rules
 
 returns-4 : tie.Need-returns-4
 returns-4 c = let s = sizes c.before.before.args.family in
-    ⊎_elim (λ w. as_steps (ap (move s) w.1.given.1) (kept_steps (c.kept.ensures ∙ ap kept_of w.3) (w.2.ensures.0 s)))
-    (⊎_elim (λ w. as_steps (ap (move s) w.1.given.1) (kept_steps (c.kept.ensures ∙ ap kept_of w.3) (w.2.ensures s)))
-    (⊎_elim (λ w. as_steps (ap (move s) w.1.given.1) (kept_steps (c.kept.ensures ∙ ap kept_of w.3) (w.2.ensures s)))
-    (⊎_elim (λ w. as_steps (ap (move s) w.1.given.1) (kept_steps (c.kept.ensures ∙ ap kept_of w.4) w.3.ensures))
-    (⊎_elim (λ w. as_steps (ap (move s) w.1.given.1) (kept_steps (c.kept.ensures ∙ ap kept_of w.4) w.3.ensures))
-    (λ w. as_steps (ap (move s) w.1.given.1) (kept_steps (c.kept.ensures ∙ ap kept_of w.3) w.2.ensures))))))
+    ⊎_elim (λ w. as_steps s (ap (move s) w.1.given.1) (kept_steps s (c.kept.ensures ∙ ap kept_of w.3) (w.2.ensures.0 s)))
+    (⊎_elim (λ w. as_steps s (ap (move s) w.1.given.1) (kept_steps s (c.kept.ensures ∙ ap kept_of w.3) (w.2.ensures s)))
+    (⊎_elim (λ w. as_steps s (ap (move s) w.1.given.1) (kept_steps s (c.kept.ensures ∙ ap kept_of w.3) (w.2.ensures s)))
+    (⊎_elim (λ w. as_steps s (ap (move s) w.1.given.1) (kept_steps s (c.kept.ensures ∙ ap kept_of w.4) w.3.ensures))
+    (⊎_elim (λ w. as_steps s (ap (move s) w.1.given.1) (kept_steps s (c.kept.ensures ∙ ap kept_of w.4) w.3.ensures))
+    (λ w. as_steps s (ap (move s) w.1.given.1) (kept_steps s (c.kept.ensures ∙ ap kept_of w.3) w.2.ensures))))))
     c.before.match.branch
 
 pub step_spec : {M : Type 1} → statement M
