@@ -1,4 +1,6 @@
 // Where a refusal points.
+#![tactic(auto)]
+
 ghost use Rattle.std.specs.Prelude.{◌≡◌, ◌+◌, ◌<◌, length, get_or};
 ghost use Rattle.recording.specs.Record.{place_within};
 ghost use Rattle.recording.specs.declared.Refusal.TheVariants.{Forbidden};
