@@ -1,4 +1,6 @@
 // The five cells of a temperature field as bytes, where all are known.
+#![tactic(auto)]
+
 ghost use Rattle.std.specs.Prelude.{◌≡◌, ◌≤◌};
 ghost use Rattle.fact.specs.View.{stands};
 ghost use Rattle.lamps.specs.Whole.{whole};
