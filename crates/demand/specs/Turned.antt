@@ -18,7 +18,7 @@ use Rattle.whole.specs.Usual.{Each}
 use Rattle.whole.specs.Turns.{Chain, KnowsAtLeast}
 use Rattle.whole.specs.Sentence.{position, StartKnows, has_gap, DefinedOn, NoUndefined, starts_first, IsMemory, AllEnd}
 use Rattle.whole.specs.Whole.{turn_chain, chain_one, ends_fit, turn_more, turn_sound}
-use Rattle.whole.specs.Parts.{facts_exact}
+use Rattle.whole.proofs.Parts.{facts_exact}
 
 module _ (p : Part) (es : List Event) (k r : Panel) (turned : InTurn (known_of p) (same? p) (range p) (move p) es k r)
     (carry : Each Bytes es) (sound : Sound (range p) (known_of p k)) where

@@ -1,15 +1,12 @@
 -- Demand 3's last sentence for PT6302. The argument is that for PT6312 and PT6315: every rule looks only at settings
 -- and the position, and, with no gap and no undefined command, lets only memory become anything.
 use Prim.Native.Nat.{ℕ, zero, suc, ◌+◌, ◌*◌, ◌%◌}
-use Rattle.std.proofs.Common.{arith, ◌∙◌, true≢false}
+use Rattle.std.proofs.Common.{◌∙◌}
 use Rattle.std.specs.Prelude.{◌≡◌, refl, Bool, true, false, ltb, eqb}
 use Rattle.std.proofs.Math.Path.{ap}
-use borrow.Author.Tests.{ne_eqb}
 use Rattle.rules.specs.Choice.{whether, whether_all}
-use Rattle.rules.specs.Rule.{value, Rule, gives, look, run}
-use Rattle.rules.specs.Change.{keep, set_bits}
-use Rattle.rules.specs.Touch.{Leaves}
-use Rattle.rules.specs.Turn.{Allows, Result}
+use Rattle.rules.specs.Rule.{value, Rule}
+use Rattle.rules.specs.Change.{keep}
 use Rattle.knowing.specs.Standing.{Standing, known}
 use Rattle.terms.specs.declared.Event.{Event}
 use Rattle.terms.specs.declared.Event.TheVariants.{Power, Falls, ByteIn, Rises, Gap, Unfinished, Keys, Switches, ByteOut}
@@ -17,15 +14,13 @@ use Rattle.character.specs.declared.command.Command.{Command}
 use Rattle.character.specs.declared.command.Command.TheVariants.{Dcram, Cgram, Adram, Port, Duty, Digits, Light, Nothing, Undefined}
 use Rattle.character.specs.declared.Position.{Position}
 use Rattle.character.specs.declared.Position.TheVariants.{Idle, First, Dcram as in_dcram, Cgram as in_cgram, Adram as in_adram, Ignoring}
-use Rattle.character.specs.Fact.{Fact, same?, range, dcram, cgram, adram, dcram_at, cgram_at, adram_at, column, port, duty, digits, lights, position, Sort, memory, setting, transfer, sort}
+use Rattle.character.specs.Fact.{Fact, same?, dcram, cgram, adram, dcram_at, cgram_at, adram_at, column, port, duty, digits, lights, position, Sort, memory, setting, transfer, sort}
 use Rattle.character.specs.Value.{lit, at_position}
 use Rattle.character.specs.Command.{command_of, Defined}
-use Rattle.character.specs.Move.{Forms, sets, spells, then, commanded, shown, drawn, marked, byte_in, move}
+use Rattle.character.specs.Move.{Forms, sets, spells, then, commanded, drawn, byte_in, move}
 use Rattle.character.specs.Laws.{every}
-use Rattle.whole.specs.Sentence.{is_gap, awaits}
 use Rattle.whole.specs.Clear.{AllOwn, Clear, keep_own, change_own, bits_own}
 use Rattle.whole.specs.Usual.{UsualAt}
-use Rattle.whole.specs.Awaits.{is_first, Sets, set_so, left_so}
 
 -- Settings and the transfer position.
 abbrev pub Asked : Sort → Type 0
@@ -107,46 +102,3 @@ clear (Unfinished n) k h = then_fine Idle
 clear (Keys k0 k1 k2 k3) k h = kept
 clear (Switches v) k h = kept
 clear ByteOut k h = kept
-
--- Whether the position is first byte after an event, by the chip before it.
-abbrev NotFirst : ℕ → Type 0
-NotFirst q = is_first q ≡ false
-
-position_commanded : (m : Command) → Sets position NotFirst (gives (commanded m))
-unfolding set_bits
-position_commanded (Dcram a) = refl
-position_commanded (Cgram a) = refl
-position_commanded (Adram a) = refl
-position_commanded (Port p) = refl
-position_commanded (Duty d) = refl
-position_commanded (Digits d) = refl
-position_commanded (Light l) = refl
-position_commanded Nothing = refl
-position_commanded Undefined = refl
-
-position_drawn : (b a i : ℕ) → Leaves position (drawn b a i)
-unfolding set_bits
-position_drawn b a i = whether_all (Leaves position) (eqb (i % 5) 4) _ _ (λ _. refl) (λ _. refl)
-
-module _ (c y : Fact → ℕ) where
-  -- A byte, by the position: none leaves it at first byte.
-  byte_onward : (b q : ℕ) → c position ≡ q → Allows 6 (run (byte_in b q) c position) (y position) → is_first (y position) ≡ false
-  unfolding set_bits
-  byte_onward b zero e a = ap is_first (a ∙ e)
-  byte_onward b (suc zero) e a = set_so range position c y NotFirst (gives (commanded (command_of b))) (position_commanded (command_of b)) a
-  byte_onward b (suc (suc zero)) e a = ap is_first (left_so range position c y (look dcram_at (shown b)) (λ _. refl) a ∙ e)
-  byte_onward b (suc (suc (suc zero))) e a =
-      ap is_first (left_so range position c y (look cgram_at (λ x. look column (drawn b x))) (position_drawn b) a ∙ e)
-  byte_onward b (suc (suc (suc (suc zero)))) e a = ap is_first (left_so range position c y (look adram_at (marked b)) (λ _. refl) a ∙ e)
-  byte_onward b (suc (suc (suc (suc (suc n))))) e a = ap is_first (a ∙ e) ∙ ne_eqb (suc (suc (suc (suc (suc n))))) 1 (λ z. omega arith)
-
-  pub onward : (e : Event) → is_gap e ≡ false → Result range (move e) c y → is_first (y position) ≡ awaits e (is_first (c position))
-  onward Power g made = ap is_first (made position)
-  onward Falls g made = ap is_first (made position)
-  onward (ByteIn b) g made = byte_onward b (c position) refl (made position)
-  onward Rises g made = ap is_first (made position)
-  onward Gap g made = absurd (true≢false g)
-  onward (Unfinished n) g made = ap is_first (made position)
-  onward (Keys k0 k1 k2 k3) g made = ap is_first (made position)
-  onward (Switches v) g made = ap is_first (made position)
-  onward ByteOut g made = ap is_first (made position)

@@ -7,4 +7,3 @@ pub mod Taken
 pub mod Awaits
 pub mod Segment
 pub mod Character
-pub mod Parts

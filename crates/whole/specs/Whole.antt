@@ -1,10 +1,9 @@
 -- Events in turn, where each is clear. The argument: the chips that fit the knowledge at the end are exactly those to
 -- which the events may lead a chip that fitted at the start. One way round a fitting chip goes on fitting; the other
--- way each fitting chip comes from a fitting one, event by event from the last to the first. So what all ends have in
--- common is what all chips that fit at the end have in common: the known values, since a fact that is not known may
--- as well be 0 as 1.
-use Rattle.std.specs.Prelude.{ℕ, ◌<◌, ◌≤◌, ◌≡◌, refl, List, [], ◌∷◌, map}
-use Rattle.std.proofs.Common.{arith, sym, ap, ◌∙◌, subst}
+-- way each fitting chip comes from a fitting one, event by event from the last to the first. What all ends have in
+-- common stands in proofs/Whole.
+use Rattle.std.specs.Prelude.{ℕ, ◌≤◌, ◌≡◌, refl, List, [], ◌∷◌, map}
+use Rattle.std.proofs.Common.{arith, sym, ◌∙◌, subst}
 use Rattle.std.proofs.Math.Path.{fun_ext, subst⁻¹}
 use Rattle.rules.specs.Rule.{Rule}
 use Rattle.rules.specs.Range.{Good, Ranged}
@@ -12,7 +11,6 @@ use Rattle.rules.specs.Turn.{Ends}
 use Rattle.rules.proofs.Results.{result_good}
 use Rattle.knowing.specs.Standing.{Standing, known, unknown, Agrees, Fits, Sound}
 use Rattle.knowing.specs.Know.{know}
-use Rattle.knowing.specs.Fill.{fill, filled, filled_fits, filled_good}
 use Rattle.knowing.specs.Moves.{exactly, still_fits}
 use Rattle.knowing.specs.Exact.{know_more}
 use Rattle.knowing.specs.Range.{know_sound}
@@ -26,14 +24,6 @@ use Rattle.whole.specs.Usual.{Each, Throughout}
 abbrev pub ExactAtEnd : {F : Type 0} → Discrete F → (F → ℕ) → List (Rule F F) → (F → Standing) → F → Type 0
 ExactAtEnd same? range rules k f =
     (v : ℕ) → (in_turn same? range rules k f ≡ known v → AllEnd range rules k f v) × (AllEnd range rules k f v → in_turn same? range rules k f ≡ known v)
-
-agreed : (s : Standing) (v w : ℕ) → s ≡ known v → Agrees s w → w ≡ v
-agreed s v w e a = subst (λ (t : Standing). Agrees t w) e a
-
--- What is v whether the unknown is 0 or 1 is known to be v.
-filled_twice : (s : Standing) (v : ℕ) → fill 0 s ≡ v → fill 1 s ≡ v → s ≡ known v
-filled_twice (known u) v a b = ap known a
-filled_twice unknown v a b = absurd (omega arith)
 
 -- Two standings that are known alike are one.
 alike : (s t : Standing) → ((v : ℕ) → s ≡ known v → t ≡ known v) → ((v : ℕ) → t ≡ known v → s ≡ known v) → s ≡ t
@@ -97,19 +87,3 @@ module _ {E F : Type 0} (same? : Discrete F) (range : F → ℕ) (two : (f : F) 
         let (y, yg, yf, ye) = fits_end es (know same? range (move e) k) b.1 (knowing_sound e k b.0 s) (stays_steered Steers same? range (move e) k t c) h.1 x good fits in
         let (z, zg, zf, zr) = comes_from Steers same? range two k s (move e) t c y yg yf in
         (z, zg, zf, (y, zr, ye))
-
-    -- What is known at the end is exactly what all fitting chips end with.
-    pub exact_at_end : (es : List E) (k : F → Standing) → Each Carries es → Sound range k → KnowsSteering Steers k → Throughout same? range move Usual es k
-        → (f : F) → ExactAtEnd same? range (map move es) k f
-    exact_at_end es k b s t h f v = (
-      λ e c good fits x ends. agreed (end f) v (x f) e (ends_fit es k b s c x good fits ends f),
-      λ all. filled_twice (end f) v (at 0 (λ g. let r = two g in omega arith) all) (at 1 two all),
-    )
-      where
-        end : F → Standing
-        end = in_turn same? range (map move es) k
-
-        at : (d : ℕ) → ((g : F) → d < range g) → AllEnd range (map move es) k f v → fill d (end f) ≡ v
-        at d room all =
-            let (c, good, fits, ends) = fits_end es k b s t h (filled d end) (filled_good range d room end (turn_sound es k b s)) (filled_fits range d room end) in
-            all c good fits (filled d end) ends

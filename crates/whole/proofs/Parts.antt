@@ -11,22 +11,26 @@ use Rattle.terms.specs.declared.Event.{Event}
 use Rattle.terms.specs.Event.{Bytes}
 use Rattle.terms.specs.declared.Part.{Part}
 use Rattle.terms.specs.declared.Part.TheVariants.{Pt6302, Pt6312, Pt6315}
-use Rattle.segment.specs.declared.Family.TheVariants as OfFamily
 use Rattle.segment.specs.Family.{sizes}
-use Rattle.segment.specs.Fact as SegmentFact
-use Rattle.segment.specs.Laws as SegmentLaws
-use Rattle.character.specs.Fact as CharacterFact
-use Rattle.character.specs.Laws as CharacterLaws
 use Rattle.parts.specs.Facts.{Fact, same?, range, move}
 use Rattle.parts.specs.Laws.{two, ranged}
 use Rattle.whole.specs.Sentence.{IsKnown, position, StartKnows, is_gap, has_gap, awaits, DefinedOn, NoUndefined, starts_first}
 use Rattle.whole.specs.Clear.{KnowsSteering, Clear}
 use Rattle.whole.specs.Usual.{UsualAt, Each, usual_less}
 use Rattle.whole.specs.Taken.{Takes, takes_throughout}
-use Rattle.whole.specs.Awaits.{is_first, takes}
-use Rattle.whole.specs.Whole.{ExactAtEnd, exact_at_end}
+use Rattle.whole.specs.Awaits.{is_first}
+use Rattle.whole.specs.Whole.{ExactAtEnd}
+use Rattle.whole.proofs.Awaits.{takes}
+use Rattle.whole.proofs.Whole.{exact_at_end}
+use Rattle.segment.specs.declared.Family.TheVariants as OfFamily
+use Rattle.segment.specs.Fact as SegmentFact
+use Rattle.segment.specs.Laws as SegmentLaws
+use Rattle.character.specs.Fact as CharacterFact
+use Rattle.character.specs.Laws as CharacterLaws
 use Rattle.whole.specs.Segment as Segment
 use Rattle.whole.specs.Character as Character
+use Rattle.whole.proofs.Segment as SegmentOnward
+use Rattle.whole.proofs.Character as CharacterOnward
 
 -- What rules look at: settings and the position.
 abbrev Steers : (p : Part) → Fact p → Type 0
@@ -59,9 +63,9 @@ clear Pt6312 = Segment.clear (sizes OfFamily.Pt6312)
 clear Pt6315 = Segment.clear (sizes OfFamily.Pt6315)
 
 onward : (p : Part) (e : Event) → is_gap e ≡ false → (c y : Fact p → ℕ) → Result (range p) (move p e) c y → is_first (y (position p)) ≡ awaits e (is_first (c (position p)))
-onward Pt6302 e g c y = Character.onward c y e g
-onward Pt6312 e g c y = Segment.onward (sizes OfFamily.Pt6312) c y e g
-onward Pt6315 e g c y = Segment.onward (sizes OfFamily.Pt6315) c y e g
+onward Pt6302 e g c y = CharacterOnward.onward c y e g
+onward Pt6312 e g c y = SegmentOnward.onward (sizes OfFamily.Pt6312) c y e g
+onward Pt6315 e g c y = SegmentOnward.onward (sizes OfFamily.Pt6315) c y e g
 
 -- The chip that has 0 wherever nothing is known has the known position.
 starts : (p : Part) (s : Standing) → IsKnown s → is_first (fill 0 s) ≡ starts_first p s

@@ -1,0 +1,5 @@
+pub mod Whole
+pub mod Awaits
+pub mod Segment
+pub mod Character
+pub mod Parts
