@@ -1,4 +1,6 @@
 // The byte that a PT6312 or PT6315 sends next, by the rule of `segment`.
+#![tactic(auto)]
+
 ghost use Rattle.std.specs.Prelude.{◌≡◌, ◌<◌, get_or};
 ghost use Rattle.segment.specs.Family.{sizes};
 ghost use Rattle.segment.specs.Value.{data_mode_of};
