@@ -1,4 +1,6 @@
 // The report of the byte to be sent next, as a value.
+#![tactic(auto)]
+
 ghost use Rattle.knowing.specs.Ways.{Joins};
 ghost use Rattle.sendings.specs.Report.{reports};
 
