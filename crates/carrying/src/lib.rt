@@ -1,4 +1,6 @@
 // Whether a recording can carry an event: it is tested as its own record is.
+#![tactic(auto)]
+
 mod carried;
 
 pub use carried::{Carried, carries};
