@@ -1,4 +1,6 @@
 // Whether a temperature field is known to be dark (paper 02, M-103).
+#![tactic(auto)]
+
 ghost use Rattle.std.specs.Prelude.{◌≡◌};
 ghost use Rattle.fact.specs.View.{stands};
 ghost use Rattle.field.specs.Field.{in_use, reaches_past, is_dark};

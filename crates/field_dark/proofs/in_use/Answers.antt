@@ -1,0 +1,10 @@
+-- `field_dark::in_use` meets its contract: code 0 is 16, and the others are 8 more. Assumes nothing.
+use mathlib.Core.Path.{refl}
+use borrow.Author.Tests.{eq-eqb, ne_eqb}
+use Rattle.field_dark.proofs.in_use.Goals as goal
+
+pub returns-then-code-eq0 : goal.returns-then-code-eq0
+returns-then-code-eq0 c = rw (eq-eqb _ _ c.if-code-eq0.true) refl
+
+pub returns-else-code-eq0 : goal.returns-else-code-eq0
+returns-else-code-eq0 c = rw (ne_eqb _ _ c.if-code-eq0.false) refl
