@@ -1,4 +1,6 @@
 // Where the tail of a recording starts, event by event.
+#![tactic(auto)]
+
 ghost use Rattle.std.specs.Prelude.{◌≡◌};
 ghost use Rattle.recording.specs.Walk.{on_gap};
 
