@@ -2,11 +2,7 @@
 -- Assumes nothing.
 use mathlib.Core.Path.{refl}
 use Rattle.segment.specs.Laws.{every}
-use Rattle.segment_machine.proofs.moves.unchanged.Statement.{statement}
-use Rattle.segment_machine.proofs.moves.unchanged.Tie as tie
+use Rattle.segment_machine.proofs.moves.unchanged.Goals as goal
 
-returns : tie.Need-returns
+pub returns : goal.returns
 returns c = every _ (λ i k. refl) refl refl refl refl refl refl (λ k. refl) (λ i. refl) refl refl refl
-
-pub unchanged_spec : {M : Type 1} → statement M
-unchanged_spec = tie.close (tie.spec returns)
