@@ -1,6 +1,6 @@
 -- A run of bytes of unknown place: to any cell of one RAM; or at an unknown position, where no address is known and no column, each a command, or to any cell of any RAM, or nothing. The
 -- argument: a byte leaves the position and the addresses as unknown as they were, so that the next one finds what this one found; and each cell meets the bytes one after the other.
-use Rattle.std.specs.Prelude.{ℕ, zero, suc, ◌/◌, ◌<◌, ◌≡◌, refl, Bool, true, false, eqb}
+use Rattle.std.specs.Prelude.{ℕ, zero, suc, ◌/◌, ◌%◌, ◌<◌, ◌≡◌, refl, Bool, true, false, eqb}
 use Rattle.std.proofs.Common.{arith, sym, ◌∙◌, eqb-true}
 use Rattle.rules.specs.Choice.{whether, whether_all}
 use Rattle.knowing.specs.Standing.{Standing, unknown}
@@ -85,9 +85,9 @@ module _ (c : Control) (h : Adrift c) where
 
   pub aims_still : (b : ℕ) → b < 64 → Defined (command_of b) → Weakens (command_of b) c c
   aims_still b o =
-      whether_all Stays (eqb (b / 16) 1) _ _ (λ e k. shows_still _)
-      (λ _. whether_all Stays (eqb (b / 16) 2) _ _ (λ e k. draws_still _)
-      (λ _. whether_all Stays (eqb (b / 16) 3) _ _ (λ e k. marks_still _)
+      whether_all Stays (eqb (b / 16) 1) _ _ (λ e k. shows_still (record { 0 = b % 16 }))
+      (λ _. whether_all Stays (eqb (b / 16) 2) _ _ (λ e k. draws_still (record { 0 = b % 8 }))
+      (λ _. whether_all Stays (eqb (b / 16) 3) _ _ (λ e k. marks_still (record { 0 = b % 16 }))
       (λ _. whether_all Stays (eqb (b / 16) 4) _ _ (λ e k. absurd (omega (arith, eqb-true (b / 16) 4 e)))
       (λ _. whether_all Stays (eqb (b / 16) 5) _ _ (λ e k. absurd (omega (arith, eqb-true (b / 16) 5 e)))
       (λ _. whether_all Stays (eqb (b / 16) 6) _ _ (λ e k. absurd (omega (arith, eqb-true (b / 16) 6 e)))

@@ -42,7 +42,7 @@ pub hit : (c : Control) {t u : Target} → t ≡ u → Hits c t → Hits c u
 hit c e h = subst (λ (x : Target). Hits c x) e h
 
 -- Behind a fall the next byte is a first byte, and so a command.
-module _ (b : ℕ) {x : Command} {c begun r : Control} (fallen : Keeps (move Falls) c begun) (said : command_of b ≡ x) where
+module _ (b : ℕ) {x : Command} (c begun r : Control) (fallen : Keeps (move Falls) c begun) (said : command_of b ≡ x) where
   ruled : (m n : Memory) → Ways.Knows (cview m) (cview n) same? range (gives (commanded x)) begun r → Ways.Knows (cview m) (cview n) same? range (move (ByteIn b)) begun r
   ruled m n h =
       Ways.known_way (cview m) (cview n) same? range position (byte_in b) begun r 1 (fallen m position)

@@ -88,8 +88,8 @@ port_met c p code r o h m k =
     ∙ ap (join (shown 2 c.port k)) (bits_told same? port ports_apart (learn same? position 1 (cview m c)) 2 p k)
 
 -- Said of a command that is another, in name.
-pub as_said : {x y : Command} {c r : Control} → x ≡ y → Weakens y c r → Weakens x c r
-as_said {x} {y} {c} {r} e h = subst⁻¹ (λ (z : Command). Weakens z c r) e h
+pub as_said : {x y : Command} (c r : Control) → x ≡ y → Weakens y c r → Weakens x c r
+as_said c r e h = subst⁻¹ (λ (z : Command). Weakens z c r) e h
 
 -- A command that is not the undefined one, as the code tells them apart, is defined.
 pub defined : (x : Command) → OneOf (0 ∷ 1 ∷ 2 ∷ 3 ∷ 4 ∷ 5 ∷ 6 ∷ 7 ∷ []) (tag_of the_type x) → Defined x

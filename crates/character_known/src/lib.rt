@@ -1,4 +1,6 @@
 // What one event makes of what is known of a PT6302 panel: exactly what all chips that fit agree on.
+#![tactic(auto)]
+
 mod anywhere;
 mod astray;
 mod bytes;

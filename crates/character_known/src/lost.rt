@@ -12,7 +12,7 @@ use lamp_tests::none_known;
 
 pub fn nothing_known(c: Control, place: Astray, dcram: &[u16], cgram: &[u16], adram: &[u16]) -> bool
     requires { Gone c place }
-    ensures { result ≡ true → (f : Fact) → kview (record { dcram = dcram.entry.now; cgram = cgram.now; adram = adram.now; control = c }) f ≡ unknown }
+    ensures { result ≡ true → (f : Fact) → kview (record { dcram = dcram.now; cgram = cgram.now; adram = adram.now; control = c }) f ≡ unknown }
 {
     if let Astray::Anywhere = place {
         if nothing_left(c) {

@@ -65,7 +65,7 @@ pub fn taken(
     event: Event,
 ) -> Control
     requires { (length dcram.old ≡ 16) × ((length cgram.old ≡ 40) × (length adram.old ≡ 16)) }
-    ensures { Knows (move event) (record { dcram = dcram.entry.now; cgram = cgram.old; adram = adram.old; control = c }) (record { dcram = dcram.exit.now; cgram = cgram.new; adram = adram.new; control = result }) }
+    ensures { Knows (move event) (record { dcram = dcram.old; cgram = cgram.old; adram = adram.old; control = c }) (record { dcram = dcram.new; cgram = cgram.new; adram = adram.new; control = result }) }
 {
     let next = step(c, event);
     let to_dcram = next.dcram;

@@ -7,20 +7,12 @@ use Rattle.changes.specs.Laws.{code_told}
 use Rattle.character.specs.Fact.{same?, port}
 use Rattle.character.specs.Laws.{every, ports_apart}
 use Rattle.character_knowledge.specs.View.{cview}
-use borrow.Author.Rules.{rules}
-use Rattle.character_known.proofs.commanded.port_set.Statement.{statement}
-use Rattle.character_known.proofs.commanded.port_set.Tie as tie
+use Rattle.character_known.proofs.commanded.port_set.Goals as goal
 
-put-byte-requires : tie.Need-put-byte-requires
-put-byte-requires c κs = search rules
-
-returns : tie.Need-returns
+pub returns : goal.returns
 unfolding set_bits
 returns c = λ m.
-    let a = c.before.args in
+    let a = c.args in
     every _ (λ i k. refl) (λ i k. refl) (λ i k. refl) refl refl refl refl
-    (λ k. code_told same? port ports_apart (cview m a.c) 2 771 a.bits a.c.port _ k wide2 refl c.put_byte.ensures)
+    (λ k. code_told same? port ports_apart (cview m a.c) 2 771 a.bits a.c.port _ k wide2 refl c.put_byte-port.ensures)
     refl refl refl refl
-
-pub port_set_spec : {M : Type 1} → statement M
-port_set_spec = tie.close (tie.spec put-byte-requires returns)

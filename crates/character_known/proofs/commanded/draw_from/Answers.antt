@@ -2,11 +2,7 @@
 -- Assumes nothing.
 use mathlib.Core.Path.{refl}
 use Rattle.character.specs.Laws.{every}
-use Rattle.character_known.proofs.commanded.draw_from.Statement.{statement}
-use Rattle.character_known.proofs.commanded.draw_from.Tie as tie
+use Rattle.character_known.proofs.commanded.draw_from.Goals as goal
 
-returns : tie.Need-returns
+pub returns : goal.returns
 returns c = λ m. every _ (λ i k. refl) (λ i k. refl) (λ i k. refl) refl refl refl refl (λ k. refl) refl refl refl refl
-
-pub draw_from_spec : {M : Type 1} → statement M
-draw_from_spec = tie.close (tie.spec returns)

@@ -2,11 +2,7 @@
 -- Assumes nothing.
 use mathlib.Core.Path.{refl}
 use Rattle.character.specs.Laws.{every}
-use Rattle.character_known.proofs.commanded.digits_set.Statement.{statement}
-use Rattle.character_known.proofs.commanded.digits_set.Tie as tie
+use Rattle.character_known.proofs.commanded.digits_set.Goals as goal
 
-returns : tie.Need-returns
+pub returns : goal.returns
 returns c = λ m. every _ (λ i k. refl) (λ i k. refl) (λ i k. refl) refl refl refl refl (λ k. refl) refl refl refl refl
-
-pub digits_set_spec : {M : Type 1} → statement M
-digits_set_spec = tie.close (tie.spec returns)
