@@ -1,5 +1,7 @@
 // The three parts under one roof: what the facts of a part are, how many values each has, and what an event does to a chip of that part, by the
 // part alone (specs/); and which code and which numbers a part goes by.
+#![tactic(auto)]
+
 ghost use Rattle.std.specs.Prelude.{◌≡◌};
 ghost use Rattle.parts.specs.Kind.{part_is};
 
