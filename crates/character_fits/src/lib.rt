@@ -1,4 +1,6 @@
 // What a painting of PT6302 comes to, before a byte of it is written: whether the picture is in its ranges, and whether there is room.
+#![tactic(auto)]
+
 ghost use Rattle.std.specs.Prelude.{◌≡◌};
 ghost use Rattle.painting.specs.Fits.{all_below, character_fits};
 ghost use Rattle.painting.specs.Answer.{character_answer};

@@ -1,4 +1,6 @@
 // What a painting of PT6312 or PT6315 comes to, before a byte of it is written: whether the picture is in its ranges, and whether there is room.
+#![tactic(auto)]
+
 ghost use Rattle.std.specs.Prelude.{◌≡◌};
 ghost use Rattle.segment.specs.Family.{sizes};
 ghost use Rattle.painting.specs.Fits.{segment_fits};
