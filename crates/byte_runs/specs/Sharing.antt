@@ -1,6 +1,6 @@
 -- What the bytes of a run have in common.
-use Rattle.std.specs.Prelude.{ℕ, zero, suc, ◌+◌, ◌*◌, ◌<◌, ◌≡◌, refl, List, length, get_or}
-use Rattle.std.proofs.Common.{arith, add-one, ap, ap₂, ◌∙◌}
+use Rattle.std.specs.Prelude.{ℕ, suc, ◌+◌, ◌*◌, ◌<◌, ◌≡◌, refl, List, length, get_or}
+use Rattle.std.proofs.Common.{arith, add-one, ap₂, ◌∙◌}
 use Rattle.knowing.specs.Know.{join}
 use Rattle.knowing.specs.Standing.{unknown}
 use Rattle.lamps.specs.View.{shown, told, Wide, OfByte}

@@ -1,0 +1,10 @@
+-- `byte_runs::sharing::shared` meets its contract: the code is what the bytes so far have in common, at every step of the loop. Assumes nothing.
+use Prim.Native.Nat.{◌-◌}
+use Rattle.byte_runs.specs.Sharing.{Shares}
+use Rattle.byte_runs.proofs.sharing.shared.Given as goal
+
+abbrev pub invariant-loop-j : goal.invariant-loop-j
+invariant-loop-j l = Shares l.wide l.bytes l.from l.j l.code
+
+abbrev pub decreases-loop-j : goal.decreases-loop-j
+decreases-loop-j l = l.most - l.j
