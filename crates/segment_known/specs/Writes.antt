@@ -1,7 +1,7 @@
 -- A data byte, by what is known of the data mode, the address and the stepping. The argument: where all three are known it goes its one way; an unknown stepping leaves
 -- the address unknown, since the address behind a cell is another; in an unknown data mode the byte may have been stored, or gone to the LED, and there is
 -- a mode in which it does nothing, so that each fact has in common with what it was what one of the two makes of it.
-use Rattle.std.specs.Prelude.{ℕ, zero, suc, ◌+◌, ◌<◌, ◌≤◌, ◌≡◌, refl, Bool, true, false, ltb}
+use Rattle.std.specs.Prelude.{ℕ, zero, suc, ◌+◌, ◌<◌, ◌≤◌, ◌≡◌, refl, ltb}
 use Rattle.std.proofs.Common.{arith, sym, ap, ap₂, ◌∙◌, lt-ltb, le-ltb}
 use Rattle.std.proofs.Math.Decide.{dec_lt}
 use Rattle.rules.specs.Choice.{whether}
@@ -10,7 +10,7 @@ use Rattle.rules.specs.Change.{keep, set_bits}
 use Rattle.knowing.specs.Standing as Of
 use Rattle.knowing.specs.Standing.{known, unknown}
 use Rattle.knowing.specs.Know.{lifted, learn, join, common, know}
-use Rattle.knowing.specs.Join.{join_swap, join_itself, join_other, common_same, common_two, common_apart}
+use Rattle.knowing.specs.Join.{join_swap, join_itself, join_other, common_two, common_apart}
 use Rattle.knowing.specs.Look.{look_unknown, know_same}
 use Rattle.fact.specs.View.{stands}
 use Rattle.fact.specs.declared.Single.{Single}
@@ -19,7 +19,7 @@ use Rattle.lamps.specs.View.{shown, told, met, OfByte, Puts, Meets}
 use Rattle.lamps.specs.Lamp.{wide4, byte_none_past, byte_met_code}
 use Rattle.changes.specs.declared.Change.{Change}
 use Rattle.changes.specs.declared.Change.TheVariants.{Keep, Put, Meet}
-use Rattle.changes.specs.Change.{seen, Inside, loose}
+use Rattle.changes.specs.Change.{seen, loose}
 use Rattle.changes.specs.Laws.{put_told, met_told, loose_seen, loose_inside, bits_told, code_told}
 use Rattle.terms.specs.declared.Address.{Address}
 use Rattle.segment.specs.declared.Sizes.{Sizes}
@@ -174,9 +174,9 @@ stored_in p c to b next h a e =
             (sym (join_itself _)) (u ∙ join_other _ _ 0 1 refl refl (λ z. omega (arith, z))) (sym (join_itself _)) (sym (join_itself _)) (sym (join_itself _)) (λ k. sym (join_itself _)) (λ i. sym (join_itself _)) (sym (join_itself _)) (sym (join_itself _)) (sym (join_itself _))
 
 -- An address that says the same.
-pub pointed : {s : Sizes} {rule : Rule Fact Fact} {c : Control} {at : Pointing} {x : Change} → points at ≡ points c.address → Steps s rule c (record { control = c; change = x })
+pub pointed : (s : Sizes) {rule : Rule Fact Fact} {c : Control} {at : Pointing} {x : Change} → points at ≡ points c.address → Steps s rule c (record { control = c; change = x })
     → Steps s rule c (record { control = pointing c at; change = x })
-pointed e h = record {
+pointed s e h = record {
   knows = λ cells.
       let k = h.knows cells in
       every _ (λ i k'. k (cell i k')) (e ∙ k address) (k data_mode) (k stepping) (k mode) (k dimming) (k display) (λ i. k (led i)) (λ i. k (key i)) (k switches) (k read_count) (k position);
@@ -186,7 +186,7 @@ pointed e h = record {
 -- A byte that is not stored, since the address is not that of a cell.
 pub stored_nowhere : (s : Sizes) (c : Control) (b v : ℕ) (at : Pointing) → points c.address ≡ points at → points at ≡ known v → stored s b v ≡ nothing
     → Steps s (look address (stored s b)) c (record { control = pointing c at; change = Keep })
-stored_nowhere s c b v at e a n = pointed (sym e) (step_known s address (stored s b) c v (λ cells. e ∙ a) (as_steps s n (kept_steps s refl (λ cells f. refl))))
+stored_nowhere s c b v at e a n = pointed s (sym e) (step_known s address (stored s b) c v (λ cells. e ∙ a) (as_steps s n (kept_steps s refl (λ cells f. refl))))
 
 -- The data mode is unknown.
 pub perhaps_written : (p : Family) (c : Control) (b : ℕ) (at : Stored) (next : Pointing) (light : ℕ) → Stores (sizes p) b c.address c.stepping at → stands c.«data» ≡ unknown

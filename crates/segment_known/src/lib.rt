@@ -1,4 +1,6 @@
 // What one event makes of what is known of a PT6312 or PT6315 panel: exactly what all chips that fit agree on.
+#![tactic(auto)]
+
 mod bytes;
 mod commanded;
 mod everyday;

@@ -67,7 +67,7 @@ fn at_power(family: Family, c: Control) -> Control
 // An event taken through a knowledge, whose cells are changed where they stand.
 pub fn taken(family: Family, c: Control, cells: &mut [u16], event: Event) -> Control
     requires { length cells.old ≡ 36 }
-    ensures { Knows (sizes family) (move (sizes family) event) (record { cells = cells.entry.now; control = c }) (record { cells = cells.exit.now; control = result }) }
+    ensures { Knows (sizes family) (move (sizes family) event) (record { cells = cells.old; control = c }) (record { cells = cells.new; control = result }) }
 {
     let next = step(family, c, event);
     let change = next.change;

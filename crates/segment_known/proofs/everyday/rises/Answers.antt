@@ -1,0 +1,9 @@
+-- `segment_known::everyday::rises` meets its contract: only the position changes.
+-- Assumes nothing.
+use Rattle.knowing.specs.Ways.{learnt}
+use Rattle.segment.specs.Fact.{same?, position}
+use Rattle.segment_knowledge.specs.View.{cview}
+use Rattle.segment_known.proofs.everyday.rises.Goals as goal
+
+pub returns : goal.returns
+returns c = λ s cells. learnt (cview cells) same? c.args.c _ position 0 (c.at.ensures cells)
