@@ -20,8 +20,10 @@ use Rattle.character_known.proofs.anywhere.weakened.Goals.{Joined-last, in-Known
 place : (c : Joined-last) → c.if-last.cgram_at ≡ stays c.args.c.cgram_at c.args.c.column
 place c =
     let l : c.match-column.last ≡ lasts c.args.c.column = elim c.match-column.branch [ in-Known w ↦ w.last-is ∙ ap lasts (sym w.in-Known.is) | in-Unknown w ↦ w.last-is ∙ ap lasts (sym w.in-Unknown.is) ] in
-    elim c.if-last.branch [ then-last w ↦ w.cgram_at-is ∙ sym (ap (λ (t : Bool). whether t Unknown c.args.c.cgram_at) (sym l ∙ w.if-last.true))
-        | else-last w ↦ w.cgram_at-is ∙ sym (ap (λ (t : Bool). whether t Unknown c.args.c.cgram_at) (sym l ∙ w.if-last.false)) ]
+    elim c.if-last.branch [
+      | then-last w ↦ w.cgram_at-is ∙ sym (ap (λ (t : Bool). whether t Unknown c.args.c.cgram_at) (sym l ∙ w.if-last.true))
+      | else-last w ↦ w.cgram_at-is ∙ sym (ap (λ (t : Bool). whether t Unknown c.args.c.cgram_at) (sym l ∙ w.if-last.false))
+    ]
 
 -- A command that is not about it leaves it.
 still : (c : Joined-last) → points c.if-last.cgram_at ≡ join (points (stays c.args.c.cgram_at c.args.c.column)) (points c.args.c.cgram_at)

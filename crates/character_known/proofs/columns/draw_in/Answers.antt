@@ -1,7 +1,6 @@
 -- `character_known::columns::draw_in` meets its contract: a known column goes its one way, an unknown one may be any of the five.
 -- Assumes nothing.
 use mathlib.Core.Path.{refl, ap}
-use mathlib.Core.Logic.{⊎_elim}
 use native.Mathlib.Omega.{arith}
 use Rattle.fact.specs.View.{stands}
 use Rattle.character.specs.Fact.{column}

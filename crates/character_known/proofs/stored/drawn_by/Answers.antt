@@ -2,7 +2,6 @@
 -- Assumes nothing.
 use native.Mathlib.Omega.{arith}
 use mathlib.Core.Path.{◌≡◌}
-use mathlib.Core.Logic.{⊎_elim}
 use Prim.Native.Nat.{◌+◌, ◌/◌, ◌%◌}
 use Rattle.character_known.proofs.stored.drawn_by.Goals as goal
 use Rattle.character_known.proofs.stored.drawn_by.Goals.{then-next-lt40, else-next-lt40}
