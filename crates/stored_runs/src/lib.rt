@@ -1,4 +1,6 @@
 // A run of bytes clocked in, put into a row of codes where the row stands.
+#![tactic(auto)]
+
 ghost use Rattle.std.specs.Prelude.{◌≡◌, ◌+◌, ◌<◌, ◌≤◌, length, get_or};
 ghost use Rattle.stored_runs.specs.Putting.{PutsRun};
 
