@@ -1,4 +1,6 @@
 // The seven strobes that paint a picture on PT6302.
+#![tactic(auto)]
+
 ghost use Rattle.std.specs.Prelude.{◌≡◌, ◌+◌, ◌≤◌, ◌<◌, length};
 ghost use Rattle.std.proofs.lemmas.List.Edits.{sets};
 ghost use Rattle.character.specs.Value.{lit};

@@ -1,4 +1,6 @@
 // The five strobes that paint a picture on PT6312 or PT6315.
+#![tactic(auto)]
+
 ghost use Rattle.std.specs.Prelude.{◌≡◌, ◌+◌, ◌*◌, ◌≤◌, ◌<◌, length, take};
 ghost use Rattle.std.proofs.lemmas.List.Edits.{sets};
 ghost use Rattle.segment.specs.Value.{shows};
