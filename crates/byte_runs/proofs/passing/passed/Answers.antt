@@ -20,10 +20,7 @@ loop-j-smaller c = omega arith
 
 pub loop-j-preserved : goal.loop-j-preserved
 loop-j-preserved c = let l = c.loop-j in
-    (omega arith, run_more _ _ l.j l.invariant.1 (omega (arith, c.loop-j-test.true)) c.if-bytes-from-eq3.true)
-
-pub returns-else-bytes-from-eq3 : goal.returns-else-bytes-from-eq3
-returns-else-bytes-from-eq3 c = c.loop-j.invariant
+    (omega arith, run_more _ _ l.j l.invariant.1 (omega (arith, c.loop-j-test.true)) (omega arith))
 
 pub returns-after-loop-j : goal.returns-after-loop-j
 returns-after-loop-j c = c.loop-j.invariant
