@@ -3,16 +3,17 @@ use crate::codes;
 use crate::codes::{code, lamps_code, partly};
 use character_knowledge::{Control, Knowledge, Pointing};
 use example_text::{character, show_facts};
+use std::io;
 
 // Writes everything, and what is unknown, on three lines, or all but unknown single facts on one. It begins with a line end and has none behind it.
-pub fn show_characters(k: Knowledge, all: bool) {
+pub fn show_characters(rt: &impl Print, k: Knowledge, all: bool) -> io::Result<()> {
     let row = codes_of(k.control);
     if all {
-        control(row, k.control.port, true);
-        memory(k, b';');
+        control(rt, row, k.control.port, true)?;
+        memory(rt, k, b';')
     } else {
-        memory(k, b',');
-        control(row, k.control.port, false);
+        memory(rt, k, b',')?;
+        control(rt, row, k.control.port, false)
     }
 }
 
@@ -48,30 +49,31 @@ fn address(to: Pointing) -> u16 {
 }
 
 // The names stand in the order of the numbers that `character_knowledge` gives them.
-fn control(codes: [u16; 10], port: u16, all: bool) {
-    facts(codes, 0, 6, all);
-    partly(port, 0x03);
-    facts(codes, 6, 9, all);
+fn control(rt: &impl Print, codes: [u16; 10], port: u16, all: bool) -> io::Result<()> {
+    facts(rt, codes, 0, 6, all)?;
+    partly(rt, port, 0x03)?;
+    facts(rt, codes, 6, 9, all)
 }
 
-fn facts(codes: [u16; 10], from: usize, to: usize, all: bool) {
+fn facts(rt: &impl Print, codes: [u16; 10], from: usize, to: usize, all: bool) -> io::Result<()> {
     show_facts(
+        rt,
         b"\n    |position /idle/first byte/to DCRAM/to CGRAM/to ADRAM/ignoring;, |DCRAM at ;, |CGRAM at ;, |column ;, |ADRAM at ;\n    |port ;, |duty ;, |digits ;, |lights /normal/off/on",
         codes,
         from,
         to,
         all,
-    );
+    )
 }
 
 // The RAMs stand on one line, with a mark between them.
-fn memory(k: Knowledge, mark: u8) {
+fn memory(rt: &impl Print, k: Knowledge, mark: u8) -> io::Result<()> {
     let dcram = k.dcram;
-    codes::runs(b"\n    DCRAM", 0xFF, &dcram, 16);
-    character(mark);
+    codes::runs(rt, b"\n    DCRAM", 0xFF, &dcram, 16)?;
+    character(rt, mark)?;
     let cgram = k.cgram;
-    codes::runs(b" CGRAM", 0x7F, &cgram, 40);
-    character(mark);
+    codes::runs(rt, b" CGRAM", 0x7F, &cgram, 40)?;
+    character(rt, mark)?;
     let adram = k.adram;
-    codes::runs(b" ADRAM", 0x03, &adram, 16);
+    codes::runs(rt, b" ADRAM", 0x03, &adram, 16)
 }

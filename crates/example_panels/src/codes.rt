@@ -3,6 +3,7 @@
 // is what no knowledge may hold.
 use example_text::{character, hex, spaced, text};
 use fact::Single;
+use std::io;
 
 // The code of a single fact.
 pub fn code(fact: Single) -> u16 {
@@ -25,26 +26,26 @@ pub fn lamps_code(lamps: u16, full: u8) -> u16 {
 }
 
 // Writes the bits of a single fact of which some are known.
-pub fn partly(lamps: u16, full: u8) {
+pub fn partly(rt: &impl Print, lamps: u16, full: u8) -> io::Result<()> {
     if lamps_code(lamps, full) == 258 {
-        show_lamps(lamps, full);
+        show_lamps(rt, lamps, full)?;
     }
+    Ok(())
 }
 
 // Writes the name of a row and its first codes, in which neighbours that are the same stand together so that lines stay short.
-pub fn runs(name: &[u8], full: u8, codes: &[u16], count: usize) {
-    text(name);
+pub fn runs(rt: &impl Print, name: &[u8], full: u8, codes: &[u16], count: usize) -> io::Result<()> {
+    text(rt, name)?;
     let mut from = 0;
-    let mut i = 0;
-    while i < count {
+    for i in 0..count {
         let code = code_at(codes, i, 0);
         let next = i + 1;
         if next == count || code != code_at(codes, next, 0) {
-            run(from, i, full, code);
+            run(rt, from, i, full, code)?;
             from = next;
         }
-        i = next;
     }
+    Ok(())
 }
 
 // A row has the code of what is unknown behind its end.
@@ -53,46 +54,44 @@ fn code_at(codes: &[u16], i: usize, unknown: u16) -> u16 {
 }
 
 // Writes the place of the first code that is the same, that of the last one where it is another, and the code.
-fn run(from: usize, to: usize, full: u8, code: u16) {
-    spaced((from % 256) as u8);
+fn run(rt: &impl Print, from: usize, to: usize, full: u8, code: u16) -> io::Result<()> {
+    spaced(rt, (from % 256) as u8)?;
     if from < to {
-        character(b'-');
-        hex((to % 256) as u8);
+        character(rt, b'-')?;
+        hex(rt, (to % 256) as u8)?;
     }
-    character(b'=');
-    show_lamps(code, full);
+    character(rt, b'=')?;
+    show_lamps(rt, code, full)
 }
 
-fn show_lamps(code: u16, full: u8) {
+fn show_lamps(rt: &impl Print, code: u16, full: u8) -> io::Result<()> {
     if code == 0 {
-        text(b"??");
-        return;
+        return text(rt, b"??");
     }
-    hex((code % 256) as u8);
+    hex(rt, (code % 256) as u8)?;
     let marks = (code / 256) as u8;
     if marks != full {
-        character(b'/');
-        hex(marks);
+        character(rt, b'/')?;
+        hex(rt, marks)?;
     }
+    Ok(())
 }
 
 // Writes the name of a row of key bytes and each of its first codes, with a space before it.
-pub fn each(name: &[u8], codes: &[u16], count: usize) {
-    text(name);
-    let mut i = 0;
-    while i < count {
-        character(b' ');
-        show(code_at(codes, i, 256));
-        i += 1;
+pub fn each(rt: &impl Print, name: &[u8], codes: &[u16], count: usize) -> io::Result<()> {
+    text(rt, name)?;
+    for i in 0..count {
+        character(rt, b' ')?;
+        show(rt, code_at(codes, i, 256))?;
     }
+    Ok(())
 }
 
-fn show(code: u16) {
+fn show(rt: &impl Print, code: u16) -> io::Result<()> {
     if code < 256 {
-        hex((code % 256) as u8);
-        return;
+        return hex(rt, (code % 256) as u8);
     }
     let sign = if code == 256 { b'?' } else { b'!' };
-    character(sign);
-    character(sign);
+    character(rt, sign)?;
+    character(rt, sign)
 }

@@ -1,4 +1,6 @@
 // What the examples on panels share: their lines are read, and what is known of a panel is told by words and written in words.
+#![tactic(auto)]
+
 mod characters;
 mod codes;
 mod example;

@@ -19,11 +19,9 @@ pub fn repeat(recording: &mut [u8], mark: usize, at: usize, end: usize) -> usize
         return at;
     }
     let group = at - mark;
-    let mut i = at;
-    while i < end {
+    for i in at..end {
         let byte = recording[i - group];
         recording[i] = byte;
-        i += 1;
     }
-    i
+    at.max(end)
 }

@@ -3,34 +3,42 @@ use crate::codes;
 use crate::codes::{code, lamps_code, partly};
 use example_text::show_facts;
 use segment_knowledge::{Control, Knowledge, Pointing};
+use std::io;
 
 // Writes everything, and what is unknown, on three lines, or all but unknown single facts on one. It begins with a line end and has none behind it.
-pub fn show_segments(part: u8, k: Knowledge, all: bool) {
+pub fn show_segments(rt: &impl Print, part: u8, k: Knowledge, all: bool) -> io::Result<()> {
     if part == 0x12 {
-        show(k, 22, 3, 10, all);
+        show(rt, k, 22, 3, 10, all)
     } else {
-        show(k, 36, 4, 9, all);
+        show(rt, k, 36, 4, 9, all)
     }
 }
 
 // The part has as many cells, keys and facts.
-fn show(k: Knowledge, some_cells: usize, some_keys: usize, some_facts: usize, all: bool) {
+fn show(
+    rt: &impl Print,
+    k: Knowledge,
+    some_cells: usize,
+    some_keys: usize,
+    some_facts: usize,
+    all: bool,
+) -> io::Result<()> {
     let row = codes_of(k.control);
     let memory = k.cells;
     let pressed = k.control.keys;
     let led = k.control.led;
     if all {
-        control(row, 0, 9, true);
-        partly(led, 0x0F);
-        keys(pressed, some_keys);
-        control(row, 9, some_facts, true);
-        cells(memory, some_cells);
+        control(rt, row, 0, 9, true)?;
+        partly(rt, led, 0x0F)?;
+        keys(rt, pressed, some_keys)?;
+        control(rt, row, 9, some_facts, true)?;
+        cells(rt, memory, some_cells)
     } else {
-        cells(memory, some_cells);
-        keys(pressed, some_keys);
-        control(row, 0, 9, false);
-        partly(led, 0x0F);
-        control(row, 9, some_facts, false);
+        cells(rt, memory, some_cells)?;
+        keys(rt, pressed, some_keys)?;
+        control(rt, row, 0, 9, false)?;
+        partly(rt, led, 0x0F)?;
+        control(rt, row, 9, some_facts, false)
     }
 }
 
@@ -68,20 +76,21 @@ fn address(to: Pointing) -> u16 {
 }
 
 // The names stand in the order of the numbers that `segment_knowledge` gives them.
-fn control(codes: [u16; 10], from: usize, to: usize, all: bool) {
+fn control(rt: &impl Print, codes: [u16; 10], from: usize, to: usize, all: bool) -> io::Result<()> {
     show_facts(
+        rt,
         b"\n    |position /idle/first byte/open/ignoring;, |data mode /write display/write LED/read keys/read switches;, |stepping /increment/fixed;, |address ;, |read count ;\n    |mode ;, |dimming ;, |display /off/on;, |LED ;, |switches ",
         codes,
         from,
         to,
         all,
-    );
+    )
 }
 
-fn keys(keys: [u16; 4], count: usize) {
-    codes::each(b", keys", &keys, count);
+fn keys(rt: &impl Print, keys: [u16; 4], count: usize) -> io::Result<()> {
+    codes::each(rt, b", keys", &keys, count)
 }
 
-fn cells(cells: [u16; 36], count: usize) {
-    codes::runs(b"\n    cells", 0xFF, &cells, count);
+fn cells(rt: &impl Print, cells: [u16; 36], count: usize) -> io::Result<()> {
+    codes::runs(rt, b"\n    cells", 0xFF, &cells, count)
 }
