@@ -1,13 +1,10 @@
--- Paper 01's examples P1 to P14, P2 as M-101, P10 as M-107 and P12 as M-104 read them, in one table, proved by one test that computes and one law. A row has the number of
+-- Paper 01's examples P1 to P14, P2 as M-101, P10 as M-107 and P12 as M-104 read them, in one table, proved in proofs/ by one test that computes and one law. A row has the number of
 -- its example, the part, what is known before, the recording, its number and place, and what is known afterwards; the
 -- rows of P14 have the picture and the output, before and afterwards.
 use Rattle.std.specs.Prelude.{ℕ, zero, suc, ◌≡◌, refl, List, [], ◌∷◌, ◌++◌, map, ◌||◌, eqb, replicate}
-use Rattle.std.proofs.Math.Decide.{ℕ_discrete}
 use Rattle.rules.specs.Choice.{whether}
 use Rattle.rules.specs.Digit.{digit}
-use Rattle.rules.specs.Change.{set_bits}
 use Rattle.knowing.specs.Standing.{Standing, known, unknown}
-use Rattle.knowing.specs.Know.{join, common, kept_if}
 use Rattle.terms.specs.declared.Part.TheVariants.{Pt6302, Pt6312, Pt6315}
 use Rattle.segment.specs.declared.Pointer.TheVariants.{At, Invalid}
 use Rattle.segment.specs.declared.Data.TheVariants.{WriteDisplay, WriteLed}
@@ -16,14 +13,12 @@ use Rattle.segment.specs.declared.Display.{Display}
 use Rattle.segment.specs.declared.Display.TheVariants.{Off, On}
 use Rattle.segment.specs.declared.Position.TheVariants.{Open}
 use Rattle.segment.specs.Value.{pointer, data_mode_of, steps, shows, at_position}
-use Rattle.segment.specs.Family.{sizes}
 use Rattle.segment.specs.Fact.{cell, address, data_mode, stepping, mode, dimming, display, led, read_count, position}
 use Rattle.segment.specs.Sent.{not_driven}
 use Rattle.character.specs.declared.Lights.TheVariants.{Normal}
 use Rattle.character.specs.Fact.{dcram}
 use Rattle.painting.specs.declared.Picture.{Picture}
-use Rattle.examples.specs.Row.{What, Said, ◌is◌, fact, ram, next, Row, replayed, painted, example, AllHold}
-use Rattle.examples.specs.Test.{alike, equal, as_said, passes, test, law}
+use Rattle.examples.specs.Row.{What, Said, ◌is◌, fact, ram, next, Row, replayed, painted, example}
 
 -- An address, or none.
 abbrev at : ℕ → Standing
@@ -122,10 +117,6 @@ table =
     ∷ painted 14 0x12 dark (replicate 67 0xEE) 0 66 (painting (0xEE ∷ []))
     ∷ painted 14 0x12 dark (replicate 65 0xEE) 10 0 (replicate 65 0xEE)
     ∷ []
-
-pub holds : AllHold table
-unfolding test passes as_said alike equal sizes ℕ_discrete join common kept_if digit set_bits
-holds = law table refl
 
 -- No example is missing, so that none can be left out unnoticed.
 pub all_there : map example table ≡ 1 ∷ 2 ∷ 3 ∷ 4 ∷ 5 ∷ 6 ∷ 7 ∷ 8 ∷ 8 ∷ 9 ∷ 10 ∷ 11 ∷ 12 ∷ 12 ∷ 13 ∷ 13 ∷ 13 ∷ 14 ∷ 14 ∷ 14 ∷ []
