@@ -1,7 +1,6 @@
 -- Two panels of which the same is known are equal. The argument: what is known of every fact fixes the knowledge.
 use Rattle.std.specs.Prelude.{◌≡◌}
 use Rattle.std.proofs.Common.{sym, ◌∙◌}
-use Rattle.knowing.specs.Standing.{known}
 use Rattle.terms.specs.declared.Part.{Part}
 use Rattle.terms.specs.declared.Part.TheVariants.{Pt6302, Pt6312, Pt6315}
 use Rattle.parts.specs.Facts.{Fact}

@@ -1,4 +1,6 @@
 // A panel's knowledge, whichever of the three parts drives it.
+#![tactic(auto)]
+
 ghost use Rattle.std.specs.Prelude.{◌≡◌};
 ghost use Rattle.panel.specs.View.{KnowsNothing};
 
