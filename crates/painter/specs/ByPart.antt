@@ -1,8 +1,8 @@
 -- What the painter answers where it has a part, a picture within its ranges and room enough: done, with the painting
 -- in front. The argument: its tests let such a picture pass, and the stream is as long as the size of the part's
 -- painting.
-use Rattle.std.specs.Prelude.{ℕ, ◌+◌, ◌*◌, ◌≤◌, ◌≡◌, refl, List, ◌++◌, length, drop, take}
-use Rattle.std.proofs.Common.{arith, sym, ap, ◌∙◌, length-take-le, take_at, le-leb}
+use Rattle.std.specs.Prelude.{ℕ, ◌≤◌, ◌≡◌, refl, List, ◌++◌, length, drop, take}
+use Rattle.std.proofs.Common.{arith, ap, ◌∙◌, length-take-le, take_at, le-leb}
 use Rattle.terms.specs.declared.Part.{Part}
 use Rattle.terms.specs.declared.Part.TheVariants.{Pt6302, Pt6312, Pt6315}
 use Rattle.terms.specs.declared.PartRead.{PartRead}
@@ -21,7 +21,7 @@ use Rattle.painting.specs.Character as Character
 use Rattle.painting.specs.Picture.{Shaped, PictureInRange, events_for}
 use Rattle.painting.specs.declared.Painted.{Painted}
 use Rattle.painting.specs.declared.Painted.TheVariants.{Done}
-use Rattle.painting.specs.Answer.{place, segment_size, character_size, answer_for, answer, stream_for, written, output}
+use Rattle.painting.specs.Answer.{segment_size, character_size, answer_for, answer, stream_for, written, output}
 use Rattle.painting.specs.Fits.{fits_segment, fits_character}
 use Rattle.segment_painter.specs.Five.{five_length, size_is}
 use Rattle.character_painter.specs.Seven.{seven_length}

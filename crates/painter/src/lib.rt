@@ -1,4 +1,5 @@
 // The painter: a part byte, a wanted picture and a lent output become the recording that paints the picture.
+#![tactic(auto)]
 
 ghost use Rattle.std.specs.Prelude.{◌≡◌, length};
 ghost use Rattle.terms.specs.Part.{part_of};
