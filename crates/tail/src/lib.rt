@@ -1,4 +1,6 @@
 // The tail finder: the part of a recording behind its last gap.
+#![tactic(auto)]
+
 mod find;
 mod gaps;
 mod part;
