@@ -106,3 +106,15 @@ defined Undefined k =
     (⊎_elim (λ e. omega (arith, e))
     (⊎_elim (λ e. omega (arith, e))
     (⊎_elim (λ e. omega (arith, e)) (⊎_elim (λ e. omega (arith, e)) (⊎_elim (λ e. omega (arith, e)) (⊎_elim (λ e. omega (arith, e)) (λ e. omega (arith, e)))))))) k
+
+-- So is one that is none, said by an equation.
+pub defined_unless : (x : Command) → ¬ (x ≡ Undefined) → Defined x
+defined_unless (Dcram a) n = tt
+defined_unless (Cgram a) n = tt
+defined_unless (Adram a) n = tt
+defined_unless (Port p) n = tt
+defined_unless (Duty d) n = tt
+defined_unless (Digits d) n = tt
+defined_unless (Light l) n = tt
+defined_unless Nothing n = tt
+defined_unless Undefined n = absurd (n refl)

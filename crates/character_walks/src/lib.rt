@@ -1,4 +1,6 @@
 // The walk for PT6302.
+#![tactic(auto)]
+
 mod astray;
 mod drift;
 mod rows;

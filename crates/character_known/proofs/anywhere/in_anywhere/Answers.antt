@@ -1,28 +1,14 @@
 -- `character_known::anywhere::in_anywhere` meets its contract: an undefined command may have made everything anything; of any other the six ways have in common what was known, weakened.
 -- Assumes nothing.
-use mathlib.Core.Path.{sym, ◌∙◌, subst, ◌≡◌, refl}
+use mathlib.Core.Path.{sym, ◌∙◌, subst}
 use Rattle.character.specs.declared.command.Command.{Command}
-use Rattle.character_known.specs.Weakened.{Weakens}
+use Rattle.character_known.specs.Weakened.{Weakens, defined_unless}
 use Rattle.character_known.specs.Anywhere.{anywhere, lost_anywhere}
-use Rattle.character.specs.declared.command.Command.TheVariants.{Dcram, Cgram, Adram, Port, Duty, Digits, Light, Nothing, Undefined}
-use Rattle.character.specs.Command.{Defined}
 use Rattle.character_known.proofs.anywhere.in_anywhere.Goals as goal
 
 pub returns-in-Undefined : goal.returns-in-Undefined
 returns-in-Undefined c = let s = c in
     lost_anywhere s.args.byte s.args.c s.requires (sym c.command_of-command.ensures ∙ c.in-Undefined.is) c.lost.ensures
-
--- A command that is not the undefined one is defined.
-defined_unless : (x : Command) → ¬ (x ≡ Undefined) → Defined x
-defined_unless (Dcram a) n = tt
-defined_unless (Cgram a) n = tt
-defined_unless (Adram a) n = tt
-defined_unless (Port p) n = tt
-defined_unless (Duty d) n = tt
-defined_unless (Digits d) n = tt
-defined_unless (Light l) n = tt
-defined_unless Nothing n = tt
-defined_unless Undefined n = absurd (n refl)
 
 pub weakened-requires : goal.weakened-requires
 weakened-requires c = defined_unless _ c.in_default.not-Undefined
