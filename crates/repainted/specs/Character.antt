@@ -17,7 +17,7 @@ use Rattle.whole.specs.Sentence.{IsKnown}
 use Rattle.terms.specs.declared.Event.{Event}
 use Rattle.terms.specs.declared.Event.TheVariants.{ByteIn}
 use Rattle.terms.specs.Event.{strobe}
-use Rattle.character.specs.Fact.{Fact, same?, range, dcram, cgram, adram, dcram_at, cgram_at, adram_at, column, port, duty, digits, lights, position}
+use Rattle.character.specs.Fact.{Fact, same?, range, dcram, cgram, adram, dcram_at, cgram_at, adram_at, column, position}
 use Rattle.character.specs.declared.Lights.{Lights}
 use Rattle.character.specs.declared.Lights.TheVariants.{Normal, Off, On}
 use Rattle.character.specs.Value.{lit}
