@@ -1,4 +1,6 @@
 // What is kept of a recording between two packets, beside its panel and the total: the unfinished bytes and the standing refusal.
+#![tactic(auto)]
+
 mod unfinished;
 
 use answers::Answer;
