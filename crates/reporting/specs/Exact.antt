@@ -10,8 +10,6 @@ use Rattle.terms.specs.declared.Part.{Part}
 use Rattle.terms.specs.declared.Part.TheVariants.{Pt6302, Pt6312, Pt6315}
 use Rattle.terms.specs.declared.PartRead.TheVariants.{Is}
 use Rattle.terms.specs.Part.{part_of}
-use Rattle.parts.specs.Facts.{same?, range}
-use Rattle.parts.specs.Laws.{two}
 use Rattle.segment.specs.declared.Family.{Family}
 use Rattle.segment.specs.declared.Family.TheVariants as OfFamily
 use Rattle.segment.specs.Family.{sizes}

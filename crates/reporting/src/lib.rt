@@ -1,4 +1,6 @@
 // The report of the byte to be sent next, for all parts.
+#![tactic(auto)]
+
 mod reports;
 
 pub use reports::{Report, next_sent};
