@@ -4,7 +4,6 @@
 -- Assumes nothing.
 use borrow.Author.Rules.{rules}
 use mathlib.Core.Path.{sym, ap, ◌∙◌}
-use mathlib.Core.Logic.{⊎_elim}
 use native.Mathlib.Omega.{arith}
 use Prim.Native.Nat.{◌+◌}
 use Rattle.recording.specs.Steps.{rest, rest_end, rest_stops, stop_fits}
@@ -63,17 +62,17 @@ loop-i-preserved-in-Strobe c = let a = c.args in
     let said = sym c.command_of-command.ensures in
     let on : (r : Knowledge) → Knows (move (ByteIn b)) begun r → Sized r → Reached a.part l (walked a.part l) (kview a.k) (at.i + 3) r = λ r. strobe_on at.invariant c.loop-i-test.true begun r b (falls_there a.part l at.i day.0 c.loop-i-test.true) (byte_there a.part l (at.i + 1) day.1.kind day.1.there ∙ ap (λ x. Is (ByteIn x) 2) (sym day.1.byte)) (omega (arith, day.1.there)) (falls.ensures (memory k)) in
     elim c.match-command.branch [
-    in-Dcram w ↦ reached w.dcram-is w.cgram-is w.adram-is w.control-is (on (knowledge at.dcram at.cgram at.adram w.show_from-control.result) (first_kept b at.control falls.result w.show_from-control.result falls.ensures (said ∙ w.in-Dcram.is) w.show_from-control.ensures (memory begun)) at.invariant.sized)
-    | in-Cgram w ↦ reached w.dcram-is w.cgram-is w.adram-is w.control-is (on (knowledge at.dcram at.cgram at.adram w.draw_from-control.result) (first_kept b at.control falls.result w.draw_from-control.result falls.ensures (said ∙ w.in-Cgram.is) w.draw_from-control.ensures (memory begun)) at.invariant.sized)
-    | in-Adram w ↦ reached w.dcram-is w.cgram-is w.adram-is w.control-is (on (knowledge at.dcram at.cgram at.adram w.mark_from-control.result) (first_kept b at.control falls.result w.mark_from-control.result falls.ensures (said ∙ w.in-Adram.is) w.mark_from-control.ensures (memory begun)) at.invariant.sized)
-    | in-Port w ↦ reached w.dcram-is w.cgram-is w.adram-is w.control-is (on (knowledge at.dcram at.cgram at.adram w.port_set-control.result) (first_kept b at.control falls.result w.port_set-control.result falls.ensures (said ∙ w.in-Port.is) w.port_set-control.ensures (memory begun)) at.invariant.sized)
-    | in-Duty w ↦ reached w.dcram-is w.cgram-is w.adram-is w.control-is (on (knowledge at.dcram at.cgram at.adram w.duty_set-control.result) (first_kept b at.control falls.result w.duty_set-control.result falls.ensures (said ∙ w.in-Duty.is) w.duty_set-control.ensures (memory begun)) at.invariant.sized)
-    | in-Digits w ↦ reached w.dcram-is w.cgram-is w.adram-is w.control-is (on (knowledge at.dcram at.cgram at.adram w.digits_set-control.result) (first_kept b at.control falls.result w.digits_set-control.result falls.ensures (said ∙ w.in-Digits.is) w.digits_set-control.ensures (memory begun)) at.invariant.sized)
-    | in-Light w ↦ reached w.dcram-is w.cgram-is w.adram-is w.control-is (on (knowledge at.dcram at.cgram at.adram w.lights_set-control.result) (first_kept b at.control falls.result w.lights_set-control.result falls.ensures (said ∙ w.in-Light.is) w.lights_set-control.ensures (memory begun)) at.invariant.sized)
-    | in-Nothing w ↦ reached w.dcram-is w.cgram-is w.adram-is w.control-is (on (knowledge at.dcram at.cgram at.adram w.ignoring_on-control.result) (first_kept b at.control falls.result w.ignoring_on-control.result falls.ensures (said ∙ w.in-Nothing.is) w.ignoring_on-control.ensures (memory begun)) at.invariant.sized)
-    | in-Undefined w ↦ reached w.dcram-is w.cgram-is w.adram-is w.control-is (on (knowledge w.forget_all.new.dcram w.forget_all.new.cgram w.forget_all.new.adram w.undefined_in-control.result)
-        (blanked (move (ByteIn b)) begun w.undefined_in-control.result (first_forgot b at.control falls.result w.undefined_in-control.result falls.ensures (said ∙ w.in-Undefined.is) (w.undefined_in-control.ensures falls.result)) w.forget_all.ensures) (search rules, (search rules, search rules))) ]
-
+      | in-Dcram w ↦ reached w.dcram-is w.cgram-is w.adram-is w.control-is (on (knowledge at.dcram at.cgram at.adram w.show_from-control.result) (first_kept b at.control falls.result w.show_from-control.result falls.ensures (said ∙ w.in-Dcram.is) w.show_from-control.ensures (memory begun)) at.invariant.sized)
+      | in-Cgram w ↦ reached w.dcram-is w.cgram-is w.adram-is w.control-is (on (knowledge at.dcram at.cgram at.adram w.draw_from-control.result) (first_kept b at.control falls.result w.draw_from-control.result falls.ensures (said ∙ w.in-Cgram.is) w.draw_from-control.ensures (memory begun)) at.invariant.sized)
+      | in-Adram w ↦ reached w.dcram-is w.cgram-is w.adram-is w.control-is (on (knowledge at.dcram at.cgram at.adram w.mark_from-control.result) (first_kept b at.control falls.result w.mark_from-control.result falls.ensures (said ∙ w.in-Adram.is) w.mark_from-control.ensures (memory begun)) at.invariant.sized)
+      | in-Port w ↦ reached w.dcram-is w.cgram-is w.adram-is w.control-is (on (knowledge at.dcram at.cgram at.adram w.port_set-control.result) (first_kept b at.control falls.result w.port_set-control.result falls.ensures (said ∙ w.in-Port.is) w.port_set-control.ensures (memory begun)) at.invariant.sized)
+      | in-Duty w ↦ reached w.dcram-is w.cgram-is w.adram-is w.control-is (on (knowledge at.dcram at.cgram at.adram w.duty_set-control.result) (first_kept b at.control falls.result w.duty_set-control.result falls.ensures (said ∙ w.in-Duty.is) w.duty_set-control.ensures (memory begun)) at.invariant.sized)
+      | in-Digits w ↦ reached w.dcram-is w.cgram-is w.adram-is w.control-is (on (knowledge at.dcram at.cgram at.adram w.digits_set-control.result) (first_kept b at.control falls.result w.digits_set-control.result falls.ensures (said ∙ w.in-Digits.is) w.digits_set-control.ensures (memory begun)) at.invariant.sized)
+      | in-Light w ↦ reached w.dcram-is w.cgram-is w.adram-is w.control-is (on (knowledge at.dcram at.cgram at.adram w.lights_set-control.result) (first_kept b at.control falls.result w.lights_set-control.result falls.ensures (said ∙ w.in-Light.is) w.lights_set-control.ensures (memory begun)) at.invariant.sized)
+      | in-Nothing w ↦ reached w.dcram-is w.cgram-is w.adram-is w.control-is (on (knowledge at.dcram at.cgram at.adram w.ignoring_on-control.result) (first_kept b at.control falls.result w.ignoring_on-control.result falls.ensures (said ∙ w.in-Nothing.is) w.ignoring_on-control.ensures (memory begun)) at.invariant.sized)
+      | in-Undefined w ↦ reached w.dcram-is w.cgram-is w.adram-is w.control-is (on (knowledge w.forget_all.new.dcram w.forget_all.new.cgram w.forget_all.new.adram w.undefined_in-control.result)
+          (blanked (move (ByteIn b)) begun w.undefined_in-control.result (first_forgot b at.control falls.result w.undefined_in-control.result falls.ensures (said ∙ w.in-Undefined.is) (w.undefined_in-control.ensures falls.result)) w.forget_all.ensures) (search rules, (search rules, search rules)))
+    ]
 
 pub loop-i-smaller-in-Rises : goal.loop-i-smaller-in-Rises
 loop-i-smaller-in-Rises c = omega (arith, c.loop-i-test.true)

@@ -1,7 +1,6 @@
 -- `character_walks::drift::drift` meets its contract: at every step of the loop the control is what the bytes so far leave, and the code what they have in common.
 -- Assumes nothing.
 use mathlib.Core.Path.{subst, subst⁻¹}
-use mathlib.Core.Logic.{⊎_elim}
 use Rattle.character.specs.declared.command.Command.{Command}
 use Rattle.character.specs.Command.{Defined, command_of}
 use Rattle.character_knowledge.specs.declared.Control.{Control}
@@ -28,8 +27,9 @@ loop-j-preserved c = let s = c in
     let now = c.if-byte-ge64.control in
     let weak : Weakens (command_of byte) at.control now =
     elim c.if-byte-ge64.branch [
-    then-byte-ge64 w ↦ subst⁻¹ (λ (r : Control). Weakens (command_of byte) at.control r) w.control-is (subst (λ (x : Command). Weakens x at.control w.weakened-control.result) said.ensures w.weakened-control.ensures)
-    | else-byte-ge64 w ↦ subst⁻¹ (λ (r : Control). Weakens (command_of byte) at.control r) w.control-is (aims_still at.control at.invariant.adrift byte w.if-byte-ge64.false (subst Defined said.ensures (defined_unless said.result c.in_default.not-Undefined))) ] in
+      | then-byte-ge64 w ↦ subst⁻¹ (λ (r : Control). Weakens (command_of byte) at.control r) w.control-is (subst (λ (x : Command). Weakens x at.control w.weakened-control.result) said.ensures w.weakened-control.ensures)
+      | else-byte-ge64 w ↦ subst⁻¹ (λ (r : Control). Weakens (command_of byte) at.control r) w.control-is (aims_still at.control at.invariant.adrift byte w.if-byte-ge64.false (subst Defined said.ensures (defined_unless said.result c.in_default.not-Undefined)))
+    ] in
     drifts_more s.args.bytes.now s.args.at.0 s.args.c at.j at.code c.code_of.result c.both_lamps-code.result at.control now at.invariant
     (omega (arith, c.loop-j-test.true)) c.if-bytes-from-eq3.true weak c.code_of.ensures c.both_lamps-code.ensures
 

@@ -1,7 +1,6 @@
 -- `character_walks::drift::gather_run` meets its contract: by the RAM that the bytes went to, by all of them, or by none.
 -- Assumes nothing.
 use mathlib.Core.Path.{◌≡◌, subst⁻¹}
-use mathlib.Core.Logic.{⊎_elim}
 use Rattle.character_known.specs.Ram.{text, columns, pairs, gone}
 use Rattle.character_walks.specs.declared.drift.Gathered.{Gathered}
 use Rattle.character_walks.specs.Drifts.{Gathers, gathers_none, gathers_roaming}
@@ -20,6 +19,7 @@ returns c = let s = c in
     let with : Gathered → Gathered = λ x. record { control = x.control; count = c.shared-common.result.count; code = c.shared-common.result.code; dcram = x.dcram; cgram = x.cgram; adram = x.adram } in
     let said : (x : Gathered) → c.match-place.run ≡ x → Gathers a.bytes.now a.at.0 a.c (with x) → Gathers a.bytes.now a.at.0 a.c (with c.match-place.run) = λ x e h. subst⁻¹ (λ (y : Gathered). Gathers a.bytes.now a.at.0 a.c (with y)) e h in
     elim c.match-place.branch [
-    in-Shown w ↦ said _ w.run-is (gathers_roaming text (gone a.c w.in-Shown.is s.requires.0) c.shared-common.ensures)
-    | in-Drawn w ↦ said _ w.run-is (gathers_roaming columns (gone a.c w.in-Drawn.is s.requires.0) c.shared-common.ensures)
-    | in-Marked w ↦ said _ w.run-is (gathers_roaming pairs (gone a.c w.in-Marked.is s.requires.0) c.shared-common.ensures) ]
+      | in-Shown w ↦ said _ w.run-is (gathers_roaming text (gone a.c w.in-Shown.is s.requires.0) c.shared-common.ensures)
+      | in-Drawn w ↦ said _ w.run-is (gathers_roaming columns (gone a.c w.in-Drawn.is s.requires.0) c.shared-common.ensures)
+      | in-Marked w ↦ said _ w.run-is (gathers_roaming pairs (gone a.c w.in-Marked.is s.requires.0) c.shared-common.ensures)
+    ]
