@@ -1,5 +1,5 @@
 -- What each arm of the walk owes: that what is left behind its records makes of the knowledge behind them what was left before makes of the knowledge before.
-use Rattle.std.specs.Prelude.{ℕ, zero, suc, ◌+◌, ◌*◌, ◌<◌, ◌≤◌, ◌≡◌, refl, Bool, true, false, List, ltb, length, get_or, drop}
+use Rattle.std.specs.Prelude.{ℕ, suc, ◌+◌, ◌*◌, ◌<◌, ◌≤◌, ◌≡◌, refl, Bool, true, false, List, ltb, length, get_or, drop}
 use Rattle.std.proofs.Common.{arith, sym, ap, ◌∙◌, subst}
 use Rattle.std.proofs.Math.Path.{subst⁻¹}
 use Rattle.rules.specs.Choice.{whether}
@@ -23,7 +23,6 @@ use Rattle.walks.specs.Reads.{falls_there, byte_there, rises_there, gap_there}
 use Rattle.walks.specs.Run.{Run, byte_of, kept_run}
 use Rattle.stored_runs.specs.Putting.{PutsRun}
 use Rattle.byte_runs.specs.Sharing.{Shares}
-use Rattle.segment.specs.declared.Sizes.{Sizes}
 use Rattle.segment.specs.declared.Family.{Family}
 use Rattle.segment.specs.declared.command.Command.{Command}
 use Rattle.segment.specs.Command.{command_of}

@@ -1,4 +1,6 @@
 // The records of every day for PT6312 and PT6315, one behind the other.
+#![tactic(auto)]
+
 mod still;
 
 ghost use Rattle.std.specs.Prelude.{◌≡◌, ◌≤◌, length};
