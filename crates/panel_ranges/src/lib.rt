@@ -1,4 +1,6 @@
 // Number 2 for a panel of any part.
+#![tactic(auto)]
+
 ghost use Rattle.knowing.specs.Standing.{Sound};
 ghost use Rattle.parts.specs.Facts.{range};
 ghost use Rattle.rules.specs.Tests.{Tests};
