@@ -1,8 +1,10 @@
 // What an update comes to, whether the setting that it needs is known, and what that makes of the reading count. What it sends, and what that does, stands in
 // specs/.
+#![tactic(auto)]
+
 ghost use Rattle.std.specs.Prelude.{◌≡◌, ℕ};
 ghost use Rattle.rules.specs.Choice.{whether};
-ghost use Rattle.knowing.specs.Standing.{Standing as Of-as-Standing, known};
+ghost use Rattle.knowing.specs.Standing.{Standing as OfStanding, known};
 ghost use Rattle.fact.specs.View.{stands};
 ghost use Rattle.segment_knowledge.specs.View.{cview};
 ghost use Rattle.updating.specs.Update.{is_set};
@@ -33,7 +35,7 @@ pub struct Refreshed {
 
 // The data setting is known to be write display and increment.
 pub fn is_set(control: Control) -> bool
-    ensures { (cells : ℕ → ℕ → Of-as-Standing) → result ≡ is_set (cview cells control) }
+    ensures { (cells : ℕ → ℕ → OfStanding) → result ≡ is_set (cview cells control) }
 {
     let mode = control.data;
     let step = control.stepping;
