@@ -1,4 +1,6 @@
 // What the program prints of a replay: the answer, and the memory that is known.
+#![tactic(auto)]
+
 mod pages;
 
 pub use pages::{ROOM, write_page};
