@@ -2,6 +2,7 @@
 use crate::print;
 use character::{Anything, Character, Lights, Moved, Position};
 use example_text::{Line, show_facts, text};
+use std::io;
 use terms::Address;
 
 // A chip in the middle of something, with a value that shows in every fact: all RAMs hold 6E, but ADRAM 2.
@@ -41,22 +42,24 @@ pub fn after(line: Line, moved: Moved) -> Moved {
     moved
 }
 
-pub fn show(moved: Moved) {
+pub fn show(rt: &impl Print, moved: Moved) -> io::Result<()> {
     let chip = moved.chip;
     show_facts(
+        rt,
         b"    |DCRAM at ;, |CGRAM at ; |column ;, |ADRAM at ;, |port ;, |duty ;, |digits ;, |/normal/off/on;, |/idle/first byte/to DCRAM/to CGRAM/to ADRAM/ignoring",
         codes_of(chip),
         0,
         9,
         true,
-    );
-    rams(chip);
+    )?;
+    rams(rt, chip)?;
     let any = moved.any;
     print::flags(
+        rt,
         b" memory/ settings/ position",
         &[any.memory, any.settings, any.position],
-    );
-    text(b"\n");
+    )?;
+    text(rt, b"\n")
 }
 
 fn codes_of(chip: Character) -> [u16; 10] {
@@ -95,11 +98,11 @@ fn position(position: Position) -> u16 {
     }
 }
 
-fn rams(chip: Character) {
+fn rams(rt: &impl Print, chip: Character) -> io::Result<()> {
     let dcram = chip.dcram;
-    print::changed(b"\n    D", &dcram, 0x6E);
+    print::changed(rt, b"\n    D", &dcram, 0x6E)?;
     let cgram = chip.cgram;
-    print::changed(b"; G", &cgram, 0x6E);
+    print::changed(rt, b"; G", &cgram, 0x6E)?;
     let adram = chip.adram;
-    print::changed(b"; A", &adram, 2);
+    print::changed(rt, b"; A", &adram, 2)
 }

@@ -2,6 +2,7 @@
 use crate::print;
 use example_text::{Line, number, show_facts, text};
 use segment::{Anything, Data, Display, Family, Moved, Pointer, Position, Segment, Sent, Stepping};
+use std::io;
 use terms::Address;
 
 // A chip in the middle of something, with a value that shows in every fact: all cells hold EE.
@@ -45,23 +46,25 @@ pub fn after(line: Line, moved: Moved) -> Moved {
     }
 }
 
-pub fn show(family: Family, moved: Moved) {
+pub fn show(rt: &impl Print, family: Family, moved: Moved) -> io::Result<()> {
     let chip = moved.chip;
     show_facts(
+        rt,
         b"    |address ;, |/write display/write LED/read keys/read switches;, |/increment/fixed;, |mode ;, |dimming ;, |/off/on;, |LED ;, |count ;, |/idle/first byte/open/ignoring",
         codes_of(chip),
         0,
         9,
         true,
-    );
+    )?;
     let cells = chip.cells;
-    print::changed(b"\n    cells", &cells, 0xEE);
+    print::changed(rt, b"\n    cells", &cells, 0xEE)?;
     let any = moved.any;
     print::flags(
+        rt,
         b" memory/ data mode/ settings/ keys and switches/ position",
         &[any.memory, any.data, any.settings, any.inputs, any.position],
-    );
-    next(family, chip);
+    )?;
+    next(rt, family, chip)
 }
 
 fn codes_of(chip: Segment) -> [u16; 10] {
@@ -123,10 +126,10 @@ fn position(position: Position) -> u16 {
     }
 }
 
-fn next(family: Family, chip: Segment) {
+fn next(rt: &impl Print, family: Family, chip: Segment) -> io::Result<()> {
     match segment_sends::sent_next(family, chip) {
-        Sent::Byte(byte) => number(b"; sends ", byte as usize),
-        Sent::NotDriven => text(b"; not driven"),
+        Sent::Byte(byte) => number(rt, b"; sends ", byte as usize)?,
+        Sent::NotDriven => text(rt, b"; not driven")?,
     }
-    text(b"\n");
+    text(rt, b"\n")
 }
