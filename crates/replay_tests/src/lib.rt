@@ -1,4 +1,6 @@
 // What a replay is refused for before its first record: tests 2, 4 and 3.
+#![tactic(auto)]
+
 ghost use Rattle.knowing.specs.Standing.{Sound};
 ghost use Rattle.parts.specs.Facts.{range};
 ghost use Rattle.rules.specs.Tests.{Tests};
