@@ -1,5 +1,5 @@
 -- What a chip shows in a field, and what is known of it.
-use Rattle.std.specs.Prelude.{ℕ, ◌+◌, ◌<◌, ◌≤◌, ◌≡◌, true, ℤ}
+use Rattle.std.specs.Prelude.{ℕ, ◌+◌, ◌≤◌, ◌≡◌, true, ℤ}
 use Rattle.knowing.specs.Standing.{Standing}
 use Rattle.knowing.specs.Holds.{is_known, holds}
 use Rattle.knowing.specs.Bytes.{HasByte}
