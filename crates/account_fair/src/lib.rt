@@ -1,4 +1,6 @@
 // Whether an account is fair, as far as no knowledge is asked for it: test 2 of the unfinished bytes, the total and the standing refusal.
+#![tactic(auto)]
+
 ghost use Rattle.std.specs.Prelude.{◌<◌, length};
 ghost use Rattle.rules.specs.Tests.{Tests};
 ghost use Rattle.recording.specs.Start.{CutOff};
