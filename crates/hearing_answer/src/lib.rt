@@ -1,4 +1,6 @@
 // What an event is answered: done, or why not.
+#![tactic(auto)]
+
 ghost use Rattle.std.specs.Prelude.{◌≡◌, eqb};
 ghost use Rattle.hearing_answer.specs.Answer.{number, Answers};
 
