@@ -1,4 +1,6 @@
 // What one event makes of a panel's knowledge, for all parts.
+#![tactic(auto)]
+
 mod events;
 mod halves;
 
