@@ -1,4 +1,6 @@
 // The walk for PT6312 and PT6315.
+#![tactic(auto)]
+
 ghost use Rattle.segment_walks.specs.Walks.{Walks};
 
 use one_record::record_at;
