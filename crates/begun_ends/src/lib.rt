@@ -1,4 +1,6 @@
 // What becomes of the account where a record was begun in an earlier packet: it is still not whole, or it is refused.
+#![tactic(auto)]
+
 ghost use Rattle.std.specs.Prelude.{◌+◌, ◌≤◌, ◌≡◌, ◌++◌, length};
 ghost use Rattle.account.specs.Bytes.{bytes_of, first_place};
 ghost use Rattle.account_ends.specs.Ended.{Goes, halted};
