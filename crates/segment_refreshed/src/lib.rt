@@ -1,4 +1,6 @@
 // What is known of a PT6312 or PT6315 panel when the bytes of an update have gone out, told from what the update sent, with no replay of these bytes.
+#![tactic(auto)]
+
 ghost use Rattle.std.specs.Prelude.{◌≡◌, ◌≤◌, length};
 ghost use Rattle.segment.specs.Family.{sizes};
 ghost use Rattle.segment.specs.Fact.{Fact};
