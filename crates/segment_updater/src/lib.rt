@@ -1,5 +1,7 @@
 // The writing of an update of PT6312 and PT6315: what is known of the cells, the wanted ones and a lent output become the recording that sends just the
 // cells that differ, and where it ended.
+#![tactic(auto)]
+
 ghost use Rattle.std.specs.Prelude.{◌≡◌, ◌+◌, ◌*◌, ◌≤◌, ◌<◌, length, eqb, [], ◌∷◌};
 ghost use Rattle.std.proofs.lemmas.List.Edits.{sets};
 ghost use Rattle.rules.specs.Choice.{whether};
