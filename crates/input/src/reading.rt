@@ -1,5 +1,6 @@
 // Reading to the end of the input, or until the buffer is full.
-ghost use Rattle.std.specs.Prelude.{◌<◌, length};
+ghost use Rattle.std.specs.Prelude.{◌≡◌, ◌≢◌, ◌<◌, length, pos};
+ghost use Rattle.std.specs.IoError.{error_kind};
 ghost use Rattle.input.specs.Reading.{Goes, Reads};
 
 use read_answer::{EINTR, Input, Next, told};
@@ -41,7 +42,10 @@ fn read_on<R: Read>(stream: &mut R, buffer: &mut [u8], before: usize) -> Next
 }
 
 // Of a stream's errors only an interruption is told from the others.
-fn errno_of(error: io::Error) -> i32 {
+fn errno_of(error: io::Error) -> i32
+    ensures interrupted { error_kind error ≡ ErrorKind.Interrupted → result ≡ pos 4 }
+    ensures other { error_kind error ≢ ErrorKind.Interrupted → result ≡ pos 0 }
+{
     if error.kind() == ErrorKind::Interrupted {
         EINTR
     } else {
