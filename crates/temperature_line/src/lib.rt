@@ -1,4 +1,6 @@
 // The line that is printed of a temperature.
+#![tactic(auto)]
+
 ghost use Rattle.writing.specs.Prints.{Prints};
 ghost use Rattle.refusals.specs.Refusal.{refused_at};
 ghost use Rattle.temperature_line.specs.Line.{Printable, WritesLine, room, PrintsLine};
