@@ -1,4 +1,6 @@
 // A panel whose recording comes in packets: what is kept of it between two, the tests that come before a packet's records, and closing.
+#![tactic(auto)]
+
 mod close;
 mod tests;
 
