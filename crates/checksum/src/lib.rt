@@ -1,4 +1,6 @@
 // A checksum of what a replay gave: its answer, and every fact of the part.
+#![tactic(auto)]
+
 mod characters;
 mod panels;
 mod segments;
