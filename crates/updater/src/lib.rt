@@ -1,5 +1,7 @@
 // The update: a part byte, what is known, the wanted cells and a lent output become the recording that brings the panel to these cells, and what is known when
 // it has gone out.
+#![tactic(auto)]
+
 ghost use Rattle.terms.specs.Part.{part_of};
 ghost use Rattle.updating.specs.Answer.{Updates};
 ghost use Rattle.updating.specs.Refresh.{Refreshes};

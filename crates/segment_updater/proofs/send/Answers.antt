@@ -3,7 +3,7 @@
 use Prim.Native.Nat.{ℕ, ◌+◌, ◌*◌, ◌<◌, ◌≤◌}
 use native.Mathlib.Omega.{arith}
 use mathlib.Core.Path.{◌≡◌, refl, ap, ◌∙◌}
-use mathlib.Core.Bool.{Bool, not, ◌&&◌}
+use mathlib.Core.Bool.{Bool, true, false, not, ◌&&◌}
 use mathlib.Core.List.{List, [], ◌∷◌}
 use lib.Dec.{eqb}
 use lib.ListN.{length}
@@ -19,6 +19,11 @@ use Rattle.updating.specs.Update.{sent_events}
 use Rattle.segment_updater.specs.Sends.{Told, told, told_most, told_size, told_count, told_behind, room_for, sent_written}
 use Rattle.segment_updater.proofs.send.Goals as goal
 
+-- A test counts once at most.
+one_most : (t : Bool) → bool_byte t ≤ 1
+one_most true = omega arith
+one_most false = omega arith
+
 -- What was counted, and whether 40H goes first.
 module _ (n : ℕ) (codes : List ℕ) (set : Bool) (w : List ℕ) (some : 0 < n) (r : Survey) (s : Surveyed n (differ codes w) r) where
   abbrev setting : Bool
@@ -27,8 +32,8 @@ module _ (n : ℕ) (codes : List ℕ) (set : Bool) (w : List ℕ) (some : 0 < n)
   found : Told n (differ codes w) set w some r.cells r.runs (bool_byte setting) setting
   found = told n (differ codes w) set w some r s
 
-  few : (r.cells ≤ n) × (r.runs ≤ n) × (bool_byte setting ≤ 1)
-  few = told_most n (differ codes w) set w some r.cells r.runs _ _ found
+  few : (r.cells ≤ n) × (r.runs ≤ n)
+  few = let m = told_most n (differ codes w) set w some r.cells r.runs _ _ found in (m.0, m.1)
 
   sized : 2 * r.cells + 4 * (r.runs + bool_byte setting) ≡ length (recording (sent_events n (differ codes w) set (wanted w)))
   sized = told_size n (differ codes w) set w some r.cells r.runs _ _ found
@@ -36,22 +41,22 @@ module _ (n : ℕ) (codes : List ℕ) (set : Bool) (w : List ℕ) (some : 0 < n)
 pub overflow_mul-size : goal.overflow_mul-size
 overflow_mul-size c =
     let a = c.args in
-    omega (arith, few a.n a.codes.now a.set a.wanted.now c.requires.0 c.look_over-found.result c.look_over-found.ensures, c.requires.1)
+    omega (arith, one_most, few a.n a.codes.now a.set a.wanted.now c.requires.0 c.look_over-found.result c.look_over-found.ensures, c.requires.1)
 
 pub overflow_add-size : goal.overflow_add-size
 overflow_add-size c =
     let a = c.args in
-    omega (arith, few a.n a.codes.now a.set a.wanted.now c.requires.0 c.look_over-found.result c.look_over-found.ensures, c.requires.1)
+    omega (arith, one_most, few a.n a.codes.now a.set a.wanted.now c.requires.0 c.look_over-found.result c.look_over-found.ensures, c.requires.1)
 
 pub overflow_mul-size-2 : goal.overflow_mul-size-2
 overflow_mul-size-2 c =
     let a = c.args in
-    omega (arith, few a.n a.codes.now a.set a.wanted.now c.requires.0 c.look_over-found.result c.look_over-found.ensures, c.requires.1)
+    omega (arith, one_most, few a.n a.codes.now a.set a.wanted.now c.requires.0 c.look_over-found.result c.look_over-found.ensures, c.requires.1)
 
 pub overflow_add-size-2 : goal.overflow_add-size-2
 overflow_add-size-2 c =
     let a = c.args in
-    omega (arith, few a.n a.codes.now a.set a.wanted.now c.requires.0 c.look_over-found.result c.look_over-found.ensures, c.requires.1)
+    omega (arith, one_most, few a.n a.codes.now a.set a.wanted.now c.requires.0 c.look_over-found.result c.look_over-found.ensures, c.requires.1)
 
 pub returns-then-out-size : goal.returns-then-out-size
 returns-then-out-size c =
