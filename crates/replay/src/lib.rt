@@ -1,4 +1,6 @@
 // The replay: knowledge in, recording in, knowledge out, or a refusal that points at its byte, with the knowledge as it was handed in.
+#![tactic(auto)]
+
 mod nothing;
 mod replays;
 mod ways;
