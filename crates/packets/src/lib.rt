@@ -1,4 +1,6 @@
 // A recording that comes in packets: each is taken through what is kept of the panel.
+#![tactic(auto)]
+
 mod packets;
 mod records;
 mod walked;
