@@ -1,4 +1,4 @@
--- What reading leaves in the buffer. That the bytes are those of the input is more than a contract can say.
+-- What reading leaves in the buffer, whatever the stream. That the bytes are those of the stream is said, of one whose bytes are known, in `Bytes`.
 use Rattle.std.specs.Prelude.{ℕ, ◌+◌, ◌<◌, ◌≤◌, ◌≡◌, List, length, take}
 use Rattle.read_answer.specs.declared.Input.{Input}
 use Rattle.read_answer.specs.declared.Input.TheVariants.{Whole, Full, Failed}

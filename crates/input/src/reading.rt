@@ -2,6 +2,7 @@
 ghost use Rattle.std.specs.Prelude.{◌≡◌, ◌≢◌, ◌<◌, length, pos};
 ghost use Rattle.std.specs.IoError.{error_kind};
 ghost use Rattle.input.specs.Reading.{Goes, Reads};
+ghost use Rattle.input.specs.Bytes.{Gives, Hands};
 
 use read_answer::{EINTR, Input, Next, told};
 use std::io;
@@ -10,7 +11,8 @@ use std::io::{ErrorKind, Read};
 // Reads a stream into a buffer. An interrupted call is made again: a proved loop has to end, so these are counted down from a number that no run
 // uses up.
 pub fn read_input<R: Read>(stream: &mut R, buffer: &mut [u8]) -> Input
-    ensures { Reads buffer.old result buffer.new }
+    ensures reads { Reads buffer.old result buffer.new }
+    ensures bytes { Gives (R.remaining stream.old) (R.remaining stream.new) result buffer.new }
 {
     let mut done = 0;
     let mut interruptions = u64::MAX;
@@ -32,7 +34,8 @@ pub fn read_input<R: Read>(stream: &mut R, buffer: &mut [u8]) -> Input
 // One call, for what comes behind the bytes that came before, which stay.
 fn read_on<R: Read>(stream: &mut R, buffer: &mut [u8], before: usize) -> Next
     requires { before < length buffer.old }
-    ensures { Goes buffer.old before result buffer.new }
+    ensures goes { Goes buffer.old before result buffer.new }
+    ensures bytes { Hands (R.remaining stream.old) (R.remaining stream.new) before result buffer.new }
 {
     let (answer, error) = match stream.read(&mut buffer[before..]) {
         Ok(n) => (n as isize, 0),
