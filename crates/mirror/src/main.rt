@@ -1,19 +1,25 @@
 // The mirror: reads the part byte and a recording from standard input, and prints what is known of the panel afterwards, or why not. Where the input
 // cannot be read to its end it prints nothing, since a recording that is cut must never pass for a whole one.
+#![tactic(auto)]
+
 ghost use Rattle.mirror_input.specs.Input.{part_byte, behind};
 ghost use Rattle.mirror.specs.Mirror.{Shows};
 
-use input::{Input, read_input};
-use libc::STDOUT_FILENO;
+use input::{Input, Stream, failed, read_input};
 use mirror_input::{part_byte, recording_of};
 use replay::from_nothing;
+use std::process::ExitCode;
 
-fn main() {
+fn main(rt: HostRuntime) -> ExitCode {
+    let mut stream = Stream::new(rt.stdin());
     let mut input = room();
-    match read_input(&mut input) {
-        Input::Whole(n) => print(&input[..n]),
-        Input::Full => print(&input),
-        Input::Failed => os::fail(b"mirror: the input could not be read to its end"),
+    match read_input(&mut stream, &mut input) {
+        Input::Whole(n) => print(&rt, &input[..n]),
+        Input::Full => print(&rt, &input),
+        Input::Failed => {
+            let what = "mirror: the input could not be read to its end";
+            failed(&rt, what, stream.error)
+        }
     }
 }
 
@@ -23,11 +29,12 @@ fn room() -> [u8; 65537] {
     [0u8; 65537]
 }
 
-fn print(input: &[u8]) {
+fn print(rt: &(impl Print + Eprint), input: &[u8]) -> ExitCode {
     let mut out = [0u8; page::ROOM];
     let length = mirrored(input, &mut out);
-    if !io::write_all(STDOUT_FILENO, &out[..length]) {
-        os::fail(b"mirror: the page could not be written whole");
+    match rt.write_all(&out[..length]) {
+        Ok(()) => ExitCode::SUCCESS,
+        Err(e) => failed(rt, "mirror: the page could not be written whole", Some(e)),
     }
 }
 
