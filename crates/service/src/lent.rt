@@ -1,4 +1,4 @@
-// Taking a packet, and closing. The state is lent; each of the two is proved by a walk of its code, by hand, so neither does more than hand it on.
+// Taking a packet, and closing. The state is lent, and neither does more than hand it on.
 ghost use Rattle.terms.specs.Part.{part_of};
 ghost use Rattle.feed.specs.Close.{Closes};
 ghost use Rattle.packets.specs.Takes.{Takes};
