@@ -4,6 +4,8 @@
 // position, the data mode and the addresses; and then the part byte, the prelude and the recording. The prelude is replayed once, by one who knows nothing, and what has a
 // mark other than 0 is forgotten: that is what each round starts from. With the size 0 a round replays the whole recording; else it takes packets of that size, of which the last
 // has what is left, and closes. Every round's answer goes into the checksum, and then every fact that the last one ends with.
+#![tactic(auto)]
+
 mod packeted;
 mod rounds;
 mod start;
@@ -12,17 +14,21 @@ ghost use Rattle.std.specs.Prelude.{◌≡◌, ◌<◌, get_or, take, drop};
 ghost use Rattle.bench.specs.Rounds.{number_at, Measures};
 
 use checksum::Sum;
-use input::{Input, read_input};
-use libc::STDOUT_FILENO;
+use input::{Input, Stream, failed, read_input};
 use rounds::summed;
 use start::{Marks, started};
+use std::process::ExitCode;
 
-fn main() {
+fn main(rt: HostRuntime) -> ExitCode {
+    let mut stream = Stream::new(rt.stdin());
     let mut input = room();
-    match read_input(&mut input) {
-        Input::Whole(n) => print(measured(&input[..n])),
-        Input::Full => print(measured(&input)),
-        Input::Failed => os::fail(b"bench: the input could not be read to its end"),
+    match read_input(&mut stream, &mut input) {
+        Input::Whole(n) => print(&rt, measured(&input[..n])),
+        Input::Full => print(&rt, measured(&input)),
+        Input::Failed => {
+            let what = "bench: the input could not be read to its end";
+            failed(&rt, what, stream.error)
+        }
     }
 }
 
@@ -32,11 +38,16 @@ fn room() -> [u8; 131083] {
     [0u8; 131083]
 }
 
-fn print(sum: Sum) {
-    if io::print_decimal(STDOUT_FILENO, sum.0 as u64) && io::write_all(STDOUT_FILENO, b"\n") {
-        return;
+fn print(rt: &(impl Print + Eprint), sum: Sum) -> ExitCode {
+    let number = sum.0;
+    match println!(rt; "{number}") {
+        Ok(()) => ExitCode::SUCCESS,
+        Err(e) => failed(
+            rt,
+            "bench: the checksum could not be written whole",
+            Some(e),
+        ),
     }
-    os::fail(b"bench: the checksum could not be written whole");
 }
 
 fn measured(input: &[u8]) -> Sum
