@@ -1,7 +1,7 @@
 -- No premise of demand 3's last sentence is empty by the bits that a fact does not have (M-107): a start that knows
 -- everything of its part knows all settings and the position; and for each part there is such a start, in range. The
 -- argument: each setting is a fact of the part, and a code with all marks of its width knows every bit of it.
-use Rattle.std.specs.Prelude.{ℕ, ◌<◌, ◌≡◌, refl, Bool, true, false, ◌&&◌, List, ltb, get_or, replicate}
+use Rattle.std.specs.Prelude.{ℕ, ◌<◌, ◌≡◌, refl, Bool, true, false, ◌&&◌, ltb, get_or, replicate}
 use Rattle.std.proofs.Common.{arith, ap, ◌∙◌, ltb-true}
 use Rattle.std.proofs.Math.Decide.{dec_lt}
 use Rattle.std.proofs.Math.Path.{subst⁻¹}
@@ -84,8 +84,8 @@ character_setting =
 -- A start that knows everything of its part is such a start as the last sentence asks for.
 pub all_known_starts : (p : Part) (k : Fact p → Standing) → KnowsAll p k → StartKnows p k
 all_known_starts Pt6302 k all = record { settings = λ f e. all f (character_setting f e); position_known = all Character.position refl }
-all_known_starts Pt6312 k all = record { settings = λ f e. all f (segment_setting _ f e); position_known = all Segment.position refl }
-all_known_starts Pt6315 k all = record { settings = λ f e. all f (segment_setting _ f e); position_known = all Segment.position refl }
+all_known_starts Pt6312 k all = record { settings = λ f e. all f (segment_setting (sizes OfFamily.Pt6312) f e); position_known = all Segment.position refl }
+all_known_starts Pt6315 k all = record { settings = λ f e. all f (segment_setting (sizes OfFamily.Pt6315) f e); position_known = all Segment.position refl }
 
 -- A panel of which everything is known: each value is 0, and all marks of each width are set.
 abbrev pub everything : Panel

@@ -1,10 +1,8 @@
 pub mod Recording
-pub mod Bytes
 pub mod Turned
 pub mod Demand
 pub mod Append
 pub mod Gaps
-pub mod Tail
 pub mod Strobes
 pub mod Painting
 pub mod Update

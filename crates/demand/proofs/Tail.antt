@@ -1,7 +1,7 @@
 -- What the tail finder is for: behind its last gap a recording tells all that it tells. The argument: a gap leaves
 -- nothing known, whatever was known before it, and so what the whole recording makes of any start is what the records
 -- behind its last gap make of knowing nothing.
-use Rattle.std.specs.Prelude.{ℕ, zero, ◌+◌, ◌-◌, ◌≡◌, refl, true, false, List, ◌∷◌, ◌++◌, map, length, drop}
+use Rattle.std.specs.Prelude.{ℕ, ◌+◌, ◌≡◌, refl, true, false, List, ◌∷◌, ◌++◌, map, length, drop}
 use Rattle.std.proofs.Common.{arith, sym, ap, ◌∙◌, subst, length-drop, le-ltb}
 use Rattle.std.proofs.Math.Path.{subst⁻¹}
 use Rattle.std.proofs.lemmas.List.{map-append}
@@ -35,7 +35,7 @@ use Rattle.tail.specs.declared.gaps.Found.{Found}
 use Rattle.whole.specs.Sentence.{has_gap}
 use Rattle.whole.specs.Whole.{ends_fit}
 use Rattle.demand.specs.Recording.{AllBytes, events_from, moves_from}
-use Rattle.demand.specs.Bytes.{carry}
+use Rattle.demand.proofs.Bytes.{carry}
 use Rattle.demand.specs.Gaps.{Behind, ByGap, last_gap}
 
 -- A gap leaves nothing known.

@@ -1,0 +1,9 @@
+pub mod Bytes
+pub mod Demand
+pub mod Tail
+pub mod Packets
+pub mod NoFour
+pub mod InPackets
+pub mod TwoPackets
+pub mod Temperature
+pub mod Places
