@@ -1,25 +1,31 @@
 // The thermometer for the bench: reads the part byte, the start of a field and a recording from standard input, and prints the temperature that the field
 // shows afterwards, or why there is none. Where the input cannot be read to its end it prints nothing, as the mirror does.
+#![tactic(auto)]
+
 ghost use Rattle.terms.specs.Part.{part_of};
 ghost use Rattle.mirror_input.specs.Input.{part_byte, behind, start_byte};
 ghost use Rattle.thermo.specs.Thermo.{Told, Shows};
 
 use answers::told_of;
-use input::{Input, read_input};
-use libc::STDOUT_FILENO;
+use input::{Input, Stream, failed, read_input};
 use mirror_input::{part_byte, recording_of, start_byte};
 use panel::Panel;
 use replay::from_nothing;
+use std::process::ExitCode;
 use temperature_line::{write_line, write_refusal};
 use terms::Address;
 use thermometer::temperature;
 
-fn main() {
+fn main(rt: HostRuntime) -> ExitCode {
+    let mut stream = Stream::new(rt.stdin());
     let mut input = room();
-    match read_input(&mut input) {
-        Input::Whole(n) => print(&input[..n]),
-        Input::Full => print(&input),
-        Input::Failed => os::fail(b"thermo: the input could not be read to its end"),
+    match read_input(&mut stream, &mut input) {
+        Input::Whole(n) => print(&rt, &input[..n]),
+        Input::Full => print(&rt, &input),
+        Input::Failed => {
+            let what = "thermo: the input could not be read to its end";
+            failed(&rt, what, stream.error)
+        }
     }
 }
 
@@ -29,11 +35,12 @@ fn room() -> [u8; 65538] {
     [0u8; 65538]
 }
 
-fn print(input: &[u8]) {
+fn print(rt: &(impl Print + Eprint), input: &[u8]) -> ExitCode {
     let mut out = [0u8; temperature_line::ROOM];
     let length = read_off(input, &mut out);
-    if !io::write_all(STDOUT_FILENO, &out[..length]) {
-        os::fail(b"thermo: the line could not be written whole");
+    match rt.write_all(&out[..length]) {
+        Ok(()) => ExitCode::SUCCESS,
+        Err(e) => failed(rt, "thermo: the line could not be written whole", Some(e)),
     }
 }
 
