@@ -5,6 +5,8 @@
 //     @0B   the field starts at 0BH; without it, at 00H
 //
 // What is written is the answer, of a reading the float's four bytes, the half degrees as a whole number, and the degrees.
+#![tactic(auto)]
+
 ghost use Rattle.half_degrees.specs.Half.{Halved};
 ghost use Rattle.temperature_line.specs.Line.{Printable};
 
@@ -13,14 +15,16 @@ use example_panels::Example;
 use example_text::{character, decimal, number, spaced, text};
 use half_degrees::{Halves, halves_of};
 use panel::{Panel, with_character};
+use std::io;
 use temperature_line::write_line;
 use terms::{Address, Place};
 use thermometer::{Answer, temperature};
 
-pub fn run(example: Example, panel: Panel, bytes: &[u8]) {
+pub fn run(rt: &impl Print, example: Example, panel: Panel, bytes: &[u8]) -> io::Result<()> {
     let start = (example.start.number % 256) as u8;
     let known = with_field(panel.character, start, bytes);
-    tell(temperature(example.part, with_character(panel, known), Address(start)));
+    let answer = temperature(example.part, with_character(panel, known), Address(start));
+    tell(rt, answer)
 }
 
 fn with_field(k: Knowledge, start: u8, bytes: &[u8]) -> Knowledge {
@@ -31,10 +35,8 @@ fn with_field(k: Knowledge, start: u8, bytes: &[u8]) -> Knowledge {
 
 // Bytes reach no further than the row.
 fn put(row: &mut [u16; 16], start: u8, bytes: &[u8]) {
-    let mut i = 0;
-    while i < 16 {
+    for i in 0..16 {
         store(row, start as usize + i, code_at(bytes, i));
-        i += 1;
     }
 }
 
@@ -55,60 +57,61 @@ fn code_at(bytes: &[u8], i: usize) -> u16 {
     }
 }
 
-fn tell(answer: Answer)
+fn tell(rt: &impl Print, answer: Answer) -> io::Result<()>
     requires { Printable answer }
 {
     match answer {
-        Answer::Reading(degrees) => reads(degrees),
-        Answer::NoReading => text(b"\n    no reading"),
-        Answer::Dark => text(b"\n    dark"),
-        Answer::Unknown => text(b"\n    unknown"),
-        Answer::NotAReading => text(b"\n    not a reading"),
-        Answer::NoPart(at) => refused(1, at),
-        Answer::OutOfRange(at) => refused(2, at),
-        Answer::NoField(at) => refused(11, at),
+        Answer::Reading(degrees) => reads(rt, degrees),
+        Answer::NoReading => text(rt, b"\n    no reading"),
+        Answer::Dark => text(rt, b"\n    dark"),
+        Answer::Unknown => text(rt, b"\n    unknown"),
+        Answer::NotAReading => text(rt, b"\n    not a reading"),
+        Answer::NoPart(at) => refused(rt, 1, at),
+        Answer::OutOfRange(at) => refused(rt, 2, at),
+        Answer::NoField(at) => refused(rt, 11, at),
     }
 }
 
-fn refused(n: usize, at: Place) {
-    number(b"\n    unknown, refused ", n);
-    number(b" at ", at.0);
+fn refused(rt: &impl Print, n: usize, at: Place) -> io::Result<()> {
+    number(rt, b"\n    unknown, refused ", n)?;
+    number(rt, b" at ", at.0)
 }
 
-fn reads(degrees: f32)
+fn reads(rt: &impl Print, degrees: f32) -> io::Result<()>
     requires { Halved degrees }
 {
-    text(b"\n    reads");
-    bits(f32::to_bits(degrees));
-    counted(halves_of(degrees));
-    in_words(Answer::Reading(degrees));
+    text(rt, b"\n    reads")?;
+    bits(rt, f32::to_bits(degrees))?;
+    counted(rt, halves_of(degrees))?;
+    in_words(rt, Answer::Reading(degrees))
 }
 
 // The highest byte first.
-fn bits(float: u32) {
-    spaced((float / 16777216 % 256) as u8);
-    spaced((float / 65536 % 256) as u8);
-    spaced((float / 256 % 256) as u8);
-    spaced((float % 256) as u8);
+fn bits(rt: &impl Print, float: u32) -> io::Result<()> {
+    spaced(rt, (float / 16777216 % 256) as u8)?;
+    spaced(rt, (float / 65536 % 256) as u8)?;
+    spaced(rt, (float / 256 % 256) as u8)?;
+    spaced(rt, (float % 256) as u8)
 }
 
-fn counted(halves: Halves) {
-    text(b", half degrees ");
+fn counted(rt: &impl Print, halves: Halves) -> io::Result<()> {
+    text(rt, b", half degrees ")?;
     if halves.0 {
-        character(b'-');
+        character(rt, b'-')?;
     }
-    decimal(halves.1 as usize);
+    decimal(rt, halves.1 as usize)
 }
 
 // The line of the answer, without its end.
-fn in_words(answer: Answer)
+fn in_words(rt: &impl Print, answer: Answer) -> io::Result<()>
     requires { Printable answer }
 {
     let mut out = [0u8; temperature_line::ROOM];
     let length = write_line(answer, &mut out);
-    text(b", degrees ");
+    text(rt, b", degrees ")?;
     if 0 < length {
         let end = length - 1;
-        text(&out[..end]);
+        text(rt, &out[..end])?;
     }
+    Ok(())
 }
