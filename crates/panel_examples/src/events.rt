@@ -21,15 +21,16 @@ use hearing::{Answer, Heard};
 use panel::Panel;
 use reporting::Report;
 use segment_sent::Sending;
+use std::io;
 use terms::Place;
 
-pub fn run(part: u8, panel: Panel, records: &[u8]) {
+pub fn run(rt: &impl Print, part: u8, panel: Panel, records: &[u8]) -> io::Result<()> {
     let heard = heard(part, panel, records);
     let answer = heard.answer;
-    show(answer);
+    show(rt, answer)?;
     let after = heard.panel;
-    show_known(part, after, false, true);
-    tell(reporting::next_sent(part, after));
+    show_known(rt, part, after, false, true)?;
+    tell(rt, reporting::next_sent(part, after))
 }
 
 fn heard(part: u8, panel: Panel, records: &[u8]) -> Heard {
@@ -38,11 +39,9 @@ fn heard(part: u8, panel: Panel, records: &[u8]) -> Heard {
         panel,
     };
     let mut line = Line::new().with_byte(part);
-    let mut i = 0;
-    while i < records.len() {
-        line = line.with_byte(records[i]);
+    for byte in records {
+        line = line.with_byte(*byte);
         heard = after(heard, line);
-        i += 1;
     }
     heard
 }
@@ -55,42 +54,42 @@ fn after(heard: Heard, line: Line) -> Heard {
     }
 }
 
-fn show(answer: Answer) {
+fn show(rt: &impl Print, answer: Answer) -> io::Result<()> {
     match answer {
-        Answer::Done => {}
-        Answer::NoPart(place) => refused(1, place),
-        Answer::OutOfRange(place) => refused(2, place),
-        Answer::Foreign(place) => refused(6, place),
-        Answer::Forbidden(place) => refused(8, place),
+        Answer::Done => Ok(()),
+        Answer::NoPart(place) => refused(rt, 1, place),
+        Answer::OutOfRange(place) => refused(rt, 2, place),
+        Answer::Foreign(place) => refused(rt, 6, place),
+        Answer::Forbidden(place) => refused(rt, 8, place),
     }
 }
 
-fn refused(n: usize, place: Place) {
-    in_words::refused(b"\n    ", n, place);
+fn refused(rt: &impl Print, n: usize, place: Place) -> io::Result<()> {
+    in_words::refused(rt, b"\n    ", n, place)
 }
 
-fn tell(report: Report) {
-    text(b"\n    next byte ");
+fn tell(rt: &impl Print, report: Report) -> io::Result<()> {
+    text(rt, b"\n    next byte ")?;
     match report {
-        Report::Is(sending) => sends(sending),
-        Report::NoPart(place) => unknown(1, place),
-        Report::OutOfRange(place) => unknown(2, place),
+        Report::Is(sending) => sends(rt, sending),
+        Report::NoPart(place) => unknown(rt, 1, place),
+        Report::OutOfRange(place) => unknown(rt, 2, place),
     }
 }
 
-fn unknown(n: usize, place: Place) {
-    in_words::refused(b"unknown, ", n, place);
+fn unknown(rt: &impl Print, n: usize, place: Place) -> io::Result<()> {
+    in_words::refused(rt, b"unknown, ", n, place)
 }
 
-fn sends(sending: Sending) {
+fn sends(rt: &impl Print, sending: Sending) -> io::Result<()> {
     match sending {
-        Sending::Byte(byte) => sends_byte(byte),
-        Sending::NotDriven => text(b"not driven"),
-        Sending::Unknown => text(b"unknown"),
+        Sending::Byte(byte) => sends_byte(rt, byte),
+        Sending::NotDriven => text(rt, b"not driven"),
+        Sending::Unknown => text(rt, b"unknown"),
     }
 }
 
-fn sends_byte(byte: u8) {
-    text(b"sends ");
-    hex(byte);
+fn sends_byte(rt: &impl Print, byte: u8) -> io::Result<()> {
+    text(rt, b"sends ")?;
+    hex(rt, byte)
 }

@@ -8,6 +8,8 @@
 //
 // What is written has memory, keys, addresses and unfinished bytes in hex, and other numbers in decimal. Memory stands as runs, 00-06=6E; ?? is unknown,
 // 12/F6 a byte, LED or port of which only the bits of the marks F6 are known, in hex, and !! a key byte of the code 257. A refusal is its number and place. What each section reads and writes beside that stands at its module.
+#![tactic(auto)]
+
 mod events;
 mod in_words;
 mod packeted;
@@ -17,41 +19,59 @@ mod updates;
 use example_panels::{Example, Told, nothing_known, panel_of, told};
 use example_text::{Word, character};
 use feed::{Feed, opened};
-use input::{Input, read_input};
-use libc::STDERR_FILENO;
+use input::{Input, Stream, failed, read_input};
 use panel::Panel;
+use std::io;
+use std::process::ExitCode;
 
 // A byte more than is taken shows that the input is longer.
-fn main() {
-    let mut buffer = io::large_buffer();
+fn main(rt: HostRuntime) -> ExitCode {
+    let mut stream = Stream::new(rt.stdin());
+    let mut buffer = buffer();
     let mut memory = room();
-    match read_input(&mut buffer) {
-        Input::Whole(n) => run(&buffer[..n], &mut memory),
-        Input::Full => {
-            io::write_all(
-                STDERR_FILENO,
-                b"panel_examples: the input is longer than 65,535 bytes\n",
-            );
+    match read_input(&mut stream, &mut buffer) {
+        Input::Whole(n) => status(&rt, run(&rt, &buffer[..n], &mut memory)),
+        Input::Full => too_long(&rt),
+        Input::Failed => {
+            let what = "panel_examples: the input could not be read to its end";
+            failed(&rt, what, stream.error)
         }
-        Input::Failed => os::fail(b"panel_examples: the input could not be read to its end"),
     }
 }
 
-// Room for the bytes of a line. A function of its own, since a proof that sees so long a row counts it.
+// Room for the input. A function of its own, since a proof that sees so long a row counts it.
+fn buffer() -> [u8; 65536] {
+    [0u8; 65536]
+}
+
+// Room for the bytes of a line.
 fn room() -> [u8; 65600] {
     [0u8; 65600]
 }
 
+fn too_long(rt: &impl Eprint) -> ExitCode {
+    let _ = eprintln!(rt; "panel_examples: the input is longer than 65,535 bytes");
+    ExitCode::SUCCESS
+}
+
+fn status(rt: &impl Eprint, written: io::Result<()>) -> ExitCode {
+    match written {
+        Ok(()) => ExitCode::SUCCESS,
+        Err(e) => {
+            let what = "panel_examples: the output could not be written whole";
+            failed(rt, what, Some(e))
+        }
+    }
+}
+
 // What is told and what is kept are values of their own, beside what was read, so that only what changes them is about them.
-fn run(examples: &[u8], memory: &mut [u8]) {
+fn run(rt: &impl Print, examples: &[u8], memory: &mut [u8]) -> io::Result<()> {
     let mut word = Word::new();
     let mut example = Example::new(0, 0);
     let mut knows = nothing_known();
     let mut feed = opened(panel::nothing_known());
-    let mut i = 0;
-    while i < examples.len() {
-        let c = examples[i];
-        i += 1;
+    for c in examples {
+        let c = *c;
         if word.ends(c) {
             knows = told(knows, example, word);
             example = example.with(word, memory);
@@ -60,31 +80,44 @@ fn run(examples: &[u8], memory: &mut [u8]) {
             word = word.with(c);
         }
         if c == b'\n' {
-            feed = ended(feed, example, knows, memory);
+            feed = ended(rt, feed, example, knows, memory)?;
             example = Example::new(example.section, example.part);
         }
-        character(c);
+        character(rt, c)?;
     }
+    Ok(())
 }
 
 // A line that has begun is run where it ends.
-fn ended(feed: Feed, example: Example, knows: Told, memory: &[u8]) -> Feed {
+fn ended(
+    rt: &impl Print,
+    feed: Feed,
+    example: Example,
+    knows: Told,
+    memory: &[u8],
+) -> io::Result<Feed> {
     if example.begun {
-        comes_to(feed, example, panel_of(knows), example.bytes(memory))
+        comes_to(rt, feed, example, panel_of(knows), example.bytes(memory))
     } else {
-        feed
+        Ok(feed)
     }
 }
 
 // Where no packets are taken, what was told is what a packet behind the line would start from.
-fn comes_to(feed: Feed, example: Example, panel: Panel, bytes: &[u8]) -> Feed {
+fn comes_to(
+    rt: &impl Print,
+    feed: Feed,
+    example: Example,
+    panel: Panel,
+    bytes: &[u8],
+) -> io::Result<Feed> {
     let section = example.section;
     match section {
-        b'e' => events::run(example.part, panel, bytes),
-        b'r' => recordings::run(example, panel, bytes),
-        b'u' => updates::run(example, panel, bytes),
-        b't' => example_temperatures::run(example, panel, bytes),
-        _ => return packeted::run(example, feed, panel, bytes),
+        b'e' => events::run(rt, example.part, panel, bytes)?,
+        b'r' => recordings::run(rt, example, panel, bytes)?,
+        b'u' => updates::run(rt, example, panel, bytes)?,
+        b't' => example_temperatures::run(rt, example, panel, bytes)?,
+        _ => return packeted::run(rt, example, feed, panel, bytes),
     }
-    opened(panel)
+    Ok(opened(panel))
 }

@@ -14,23 +14,30 @@ use example_text::{Word, bytes, number, text};
 use feed::{Answer, Feed, Kept, Unfinished, closed};
 use packets::taken;
 use panel::Panel;
+use std::io;
 use terms::Place;
 
-pub fn run(example: Example, feed: Feed, panel: Panel, bytes: &[u8]) -> Feed {
+pub fn run(
+    rt: &impl Print,
+    example: Example,
+    feed: Feed,
+    panel: Panel,
+    bytes: &[u8],
+) -> io::Result<Feed> {
     let after = if example.packet {
-        takes(example.part, feed, bytes)
+        takes(rt, example.part, feed, bytes)?
     } else {
         begins(example, panel, bytes)
     };
-    keeps(example.part, after);
-    after
+    keeps(rt, example.part, after)?;
+    Ok(after)
 }
 
-fn takes(part: u8, feed: Feed, packet: &[u8]) -> Feed {
+fn takes(rt: &impl Print, part: u8, feed: Feed, packet: &[u8]) -> io::Result<Feed> {
     let taken = taken(part, feed, packet);
     let answer = taken.answer;
-    answered(b"\n    packet ", answer);
-    taken.feed
+    answered(rt, b"\n    packet ", answer)?;
+    Ok(taken.feed)
 }
 
 fn begins(example: Example, panel: Panel, bytes: &[u8]) -> Feed {
@@ -73,34 +80,34 @@ fn numbered(number: usize, place: Place) -> Answer {
     }
 }
 
-fn keeps(part: u8, feed: Feed) {
-    show_known(part, feed.panel, false, false);
+fn keeps(rt: &impl Print, part: u8, feed: Feed) -> io::Result<()> {
+    show_known(rt, part, feed.panel, false, false)?;
     let unfinished = feed.unfinished;
-    shows(unfinished);
-    number(b", total ", feed.total as usize);
+    shows(rt, unfinished)?;
+    number(rt, b", total ", feed.total as usize)?;
     let kept = feed.kept;
-    stands(kept);
-    answered(b"\n    closing ", closed(part, feed));
+    stands(rt, kept)?;
+    answered(rt, b"\n    closing ", closed(part, feed))
 }
 
-fn shows(unfinished: Unfinished) {
-    text(b"\n    unfinished");
+fn shows(rt: &impl Print, unfinished: Unfinished) -> io::Result<()> {
+    text(rt, b"\n    unfinished")?;
     let count = count_of(unfinished);
     if count == 0 {
-        text(b" nothing");
+        text(rt, b" nothing")
     } else {
-        row(unfinished, count);
+        row(rt, unfinished, count)
     }
 }
 
-fn row(unfinished: Unfinished, count: usize) {
+fn row(rt: &impl Print, unfinished: Unfinished, count: usize) -> io::Result<()> {
     let row = joined(unfinished, b"");
-    bytes(&row, count);
+    bytes(rt, &row, count)
 }
 
-fn stands(kept: Kept) {
+fn stands(rt: &impl Print, kept: Kept) -> io::Result<()> {
     match kept {
-        Kept::None => {}
-        Kept::Refused(answer) => answered(b", standing ", answer),
+        Kept::None => Ok(()),
+        Kept::Refused(answer) => answered(rt, b", standing ", answer),
     }
 }

@@ -14,36 +14,38 @@ use crate::in_words::answered;
 use example_panels::{Example, show_known};
 use example_text::{bytes, character, number, text};
 use panel::Panel;
+use std::io;
 use tail::Found;
 use terms::Place;
 
-pub fn run(example: Example, before: Panel, recording: &[u8]) {
+pub fn run(rt: &impl Print, example: Example, before: Panel, recording: &[u8]) -> io::Result<()> {
     let part = example.part;
     let replayed = replay::replay(part, before, recording, Place(example.start.number));
     let answer = replayed.answer;
-    answered(b"\n    replay ", answer);
-    show_known(part, replayed.panel, example.worded, false);
-    tails(part, recording);
+    answered(rt, b"\n    replay ", answer)?;
+    show_known(rt, part, replayed.panel, example.worded, false)?;
+    tails(rt, part, recording)
 }
 
-fn tails(part: u8, recording: &[u8]) {
-    found(tail::find_tail(part, recording));
-    first(tail::tail(part, recording));
+fn tails(rt: &impl Print, part: u8, recording: &[u8]) -> io::Result<()> {
+    found(rt, tail::find_tail(part, recording))?;
+    first(rt, tail::tail(part, recording))
 }
 
-fn found(found: Found) {
+fn found(rt: &impl Print, found: Found) -> io::Result<()> {
     let answer = found.answer;
-    answered(b"\n    tail ", answer);
-    number(b", from ", found.start.0);
-    number(b" to ", found.end.0);
+    answered(rt, b"\n    tail ", answer)?;
+    number(rt, b", from ", found.start.0)?;
+    number(rt, b" to ", found.end.0)
 }
 
 // How long a tail is, and its first bytes: a long one would hide the rest.
-fn first(tail: &[u8]) {
-    number(b", length ", tail.len());
-    character(b':');
-    bytes(tail, 16);
+fn first(rt: &impl Print, tail: &[u8]) -> io::Result<()> {
+    number(rt, b", length ", tail.len())?;
+    character(rt, b':')?;
+    bytes(rt, tail, 16)?;
     if 16 < tail.len() {
-        text(b" ..");
+        text(rt, b" ..")?;
     }
+    Ok(())
 }

@@ -12,16 +12,17 @@ use crate::in_words::{answered, refused};
 use example_panels::{Example, show_known};
 use example_text::{bytes, character, number, text};
 use panel::Panel;
+use std::io;
 use terms::Place;
 use updater::{Updated, refresh};
 use writing::words;
 
-pub fn run(example: Example, panel: Panel, given: &[u8]) {
+pub fn run(rt: &impl Print, example: Example, panel: Panel, given: &[u8]) -> io::Result<()> {
     let mut wanted = [0x6E; 36];
     words(&mut wanted, 0, given);
     let mut out = [0xA5; 112];
     let room = room_of(example);
-    updates(example.part, panel, wanted, &mut out[..room]);
+    updates(rt, example.part, panel, wanted, &mut out[..room])
 }
 
 fn room_of(example: Example) -> usize
@@ -38,40 +39,53 @@ fn room_of(example: Example) -> usize
     }
 }
 
-fn updates(part: u8, panel: Panel, wanted: [u8; 36], out: &mut [u8]) {
+fn updates(
+    rt: &impl Print,
+    part: u8,
+    panel: Panel,
+    wanted: [u8; 36],
+    out: &mut [u8],
+) -> io::Result<()> {
     let refreshed = refresh(part, panel, wanted, out);
     let answer = refreshed.answer;
     match answer {
         Updated::Done(place, count) => {
-            sent(part, panel, place.0, count, out);
-            show_known(part, refreshed.panel, false, false);
+            sent(rt, part, panel, place.0, count, out)?;
+            show_known(rt, part, refreshed.panel, false, false)
         }
-        Updated::NoPart(place) => refuses(1, place, out),
-        Updated::OutOfRange(place) => refuses(2, place, out),
-        Updated::TooSmall(place) => refuses(10, place, out),
+        Updated::NoPart(place) => refuses(rt, 1, place, out),
+        Updated::OutOfRange(place) => refuses(rt, 2, place, out),
+        Updated::TooSmall(place) => refuses(rt, 10, place, out),
     }
 }
 
-fn sent(part: u8, panel: Panel, length: usize, count: usize, out: &[u8]) {
-    number(b"\n    update done at ", length);
-    wire(count, length, out);
+fn sent(
+    rt: &impl Print,
+    part: u8,
+    panel: Panel,
+    length: usize,
+    count: usize,
+    out: &[u8],
+) -> io::Result<()> {
+    number(rt, b"\n    update done at ", length)?;
+    wire(rt, count, length, out)?;
     let replayed = replay::replay(part, panel, front(out, length), Place(0));
     let answer = replayed.answer;
-    answered(b"\n    replay ", answer);
+    answered(rt, b"\n    replay ", answer)
 }
 
-fn refuses(n: usize, place: Place, out: &[u8]) {
-    refused(b"\n    update ", n, place);
-    wire(0, 0, out);
+fn refuses(rt: &impl Print, n: usize, place: Place, out: &[u8]) -> io::Result<()> {
+    refused(rt, b"\n    update ", n, place)?;
+    wire(rt, 0, 0, out)
 }
 
 // The wire bytes, the stream, and how many bytes behind it are as they were.
-fn wire(count: usize, length: usize, out: &[u8]) {
-    number(b", wire ", count);
-    character(b':');
-    bytes(out, length);
-    number(b", behind ", unchanged(out, length));
-    text(b" as before");
+fn wire(rt: &impl Print, count: usize, length: usize, out: &[u8]) -> io::Result<()> {
+    number(rt, b", wire ", count)?;
+    character(rt, b':')?;
+    bytes(rt, out, length)?;
+    number(rt, b", behind ", unchanged(out, length))?;
+    text(rt, b" as before")
 }
 
 fn front(out: &[u8], length: usize) -> &[u8] {
@@ -83,14 +97,8 @@ fn front(out: &[u8], length: usize) -> &[u8] {
 }
 
 fn unchanged(out: &[u8], from: usize) -> usize {
-    let mut count = 0;
-    let mut i = from;
-    while i < out.len() {
-        if out[i] != 0xA5 {
-            return count;
-        }
-        count += 1;
-        i += 1;
-    }
-    count
+    out.iter()
+        .skip(from)
+        .take_while(|byte| **byte == 0xA5)
+        .count()
 }
