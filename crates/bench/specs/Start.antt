@@ -4,9 +4,9 @@ use Rattle.rules.specs.Choice.{whether}
 use Rattle.fact.specs.declared.Single.{Single}
 use Rattle.fact.specs.declared.Single.TheVariants.{Unknown}
 use Rattle.segment_knowledge.specs.declared.Control as Segment
-use Rattle.segment_knowledge.specs.declared.Pointing.TheVariants as Of-as-Segment
+use Rattle.segment_knowledge.specs.declared.Pointing.TheVariants as OfSegment
 use Rattle.character_knowledge.specs.declared.Control as Character
-use Rattle.fact.specs.declared.Pointing.TheVariants as Of-as-Character
+use Rattle.fact.specs.declared.Pointing.TheVariants as OfCharacter
 use Rattle.panel.specs.declared.Panel.{Panel}
 use Rattle.replay.specs.declared.replays.Replayed.{Replayed}
 use Rattle.replay.specs.FromNothing.{FromNothing}
@@ -22,7 +22,7 @@ kept mark fact = unless mark fact Unknown
 abbrev pub less_of_segment : Marks → Segment.Control → Segment.Control
 less_of_segment m c =
     record {
-      address = unless m.addresses c.address Of-as-Segment.Unknown;
+      address = unless m.addresses c.address OfSegment.Unknown;
       «data» = kept m.«data» c.«data»;
       stepping = c.stepping;
       mode = c.mode;
@@ -39,9 +39,9 @@ less_of_segment m c =
 abbrev pub less_of_character : Marks → Character.Control → Character.Control
 less_of_character m c =
     record {
-      dcram_at = unless m.addresses c.dcram_at Of-as-Character.Unknown;
-      cgram_at = unless m.addresses c.cgram_at Of-as-Character.Unknown;
-      adram_at = unless m.addresses c.adram_at Of-as-Character.Unknown;
+      dcram_at = unless m.addresses c.dcram_at OfCharacter.Unknown;
+      cgram_at = unless m.addresses c.cgram_at OfCharacter.Unknown;
+      adram_at = unless m.addresses c.adram_at OfCharacter.Unknown;
       column = kept m.addresses c.column;
       port = c.port;
       duty = c.duty;

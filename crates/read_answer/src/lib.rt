@@ -13,7 +13,7 @@ pub enum Input {
     Whole(usize),
     // The buffer is full. Who lends a byte more than it takes knows then that the input is too long.
     Full,
-    // The input could not be read to its end, and errno says why.
+    // The input could not be read to its end, and who read it knows why.
     Failed,
 }
 

@@ -1,4 +1,3 @@
-#![tactic(auto)]
-
 // A move of a chip written as data. There is no code here: what a rule is, what it does to a chip and the laws of both
-// stand in specs/, and nothing there knows of any chip.
+// stand in specs/, those of a move's results in proofs/, and nothing there knows of any chip.
+#![tactic(auto)]

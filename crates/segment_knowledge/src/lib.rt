@@ -4,7 +4,7 @@
 mod numbers;
 
 ghost use Rattle.std.specs.Prelude.{◌≡◌, ℕ};
-ghost use Rattle.knowing.specs.Standing.{Standing as Of-as-Standing, unknown};
+ghost use Rattle.knowing.specs.Standing.{Standing as OfStanding, unknown};
 ghost use Rattle.knowing.specs.Ways.{Learns};
 ghost use Rattle.segment.specs.Fact.{Fact, same?, data_mode, position};
 ghost use Rattle.segment_knowledge.specs.View.{cview, kview};
@@ -61,7 +61,7 @@ pub fn no_control() -> Control
 
 // The same with the position known.
 pub fn at(c: Control, place: u8) -> Control
-    ensures { (cells : ℕ → ℕ → Of-as-Standing) → Learns (cview cells) same? position place c result }
+    ensures { (cells : ℕ → ℕ → OfStanding) → Learns (cview cells) same? position place c result }
 {
     Control {
         position: Single::Known(place),
@@ -71,7 +71,7 @@ pub fn at(c: Control, place: u8) -> Control
 
 // The same with the data mode known.
 pub fn with_data(c: Control, mode: u8) -> Control
-    ensures { (cells : ℕ → ℕ → Of-as-Standing) → Learns (cview cells) same? data_mode mode c result }
+    ensures { (cells : ℕ → ℕ → OfStanding) → Learns (cview cells) same? data_mode mode c result }
 {
     Control {
         data: Single::Known(mode),
