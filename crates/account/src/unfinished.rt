@@ -5,7 +5,7 @@ ghost use Rattle.account.specs.Bytes.{bytes_of, row_of, first_five, whole_of};
 use recording::body_of;
 
 // At most four, since the longest record has five.
-#[derive(Clone, Copy)]
+#[derive(Clone, Copy, Debug, PartialEq, Eq)]
 pub enum Unfinished {
     None,
     One(u8),
@@ -52,20 +52,13 @@ pub fn held(bytes: &[u8]) -> Unfinished
     requires { length bytes.now ≤ 4 }
     ensures { bytes_of result ≡ bytes.now }
 {
-    let count = bytes.len();
-    if count == 0 {
-        return Unfinished::None;
+    match bytes {
+        [] => Unfinished::None,
+        [a] => Unfinished::One(*a),
+        [a, b] => Unfinished::Two(*a, *b),
+        [a, b, c] => Unfinished::Three(*a, *b, *c),
+        [a, b, c, d, ..] => Unfinished::Four(*a, *b, *c, *d),
     }
-    if count == 1 {
-        return Unfinished::One(bytes[0]);
-    }
-    if count == 2 {
-        return Unfinished::Two(bytes[0], bytes[1]);
-    }
-    if count == 3 {
-        return Unfinished::Three(bytes[0], bytes[1], bytes[2]);
-    }
-    Unfinished::Four(bytes[0], bytes[1], bytes[2], bytes[3])
 }
 
 // The unfinished bytes and the packet's first ones, as many as the longest record has, with noughts where there are no more.
@@ -88,5 +81,5 @@ pub fn joined(unfinished: Unfinished, packet: &[u8]) -> [u8; 5]
 fn byte_at(bytes: &[u8], i: usize) -> u8
     ensures { result ≡ get_or bytes.now i 0 }
 {
-    if i < bytes.len() { bytes[i] } else { 0 }
+    bytes.get(i).copied().unwrap_or(0)
 }

@@ -2,30 +2,28 @@
 ghost use Rattle.std.specs.Prelude.{◌+◌, ◌≤◌, ◌≡◌, length, drop};
 ghost use Rattle.account_ends.specs.Ended.{ByEnd, EndOf, went, halted};
 
-use account::{Kept, Unfinished, held};
-use answers::{Answer, refused};
-use recording::{Ending, Refusal};
+use account::{Account, Unfinished, held};
+use answers::{Answer, Refused};
+use recording::{Refusal, Stop};
 use terms::Place;
 
 // The packet's answer, and the account after it.
-#[derive(Clone, Copy)]
+#[derive(Clone, Copy, Debug, PartialEq, Eq)]
 pub struct Ended {
     pub answer: Answer,
-    pub unfinished: Unfinished,
-    pub total: u32,
-    pub kept: Kept,
+    pub account: Account,
 }
 
 // By how the walk over the packet's bytes from a place on has ended.
-pub fn settled(total: u32, packet: &[u8], from: usize, ending: Ending) -> Ended
+pub fn settled(total: u32, packet: &[u8], from: usize, ending: Result<(), Stop>) -> Ended
     requires { (from ≤ length packet.now) × (total + length packet.now ≤ 4294967295) × EndOf ending (drop from packet.now) }
     ensures { ByEnd ending (total + from) total (total + length packet.now) (drop from packet.now) result }
 {
     let before = total as usize;
     let sum = before + packet.len();
     match ending {
-        Ending::Done => went_on(Unfinished::None, sum),
-        Ending::Stops(refusal, at) => {
+        Ok(()) => went_on(Unfinished::None, sum),
+        Err(Stop { refusal, at }) => {
             let inside = from + at.0;
             if let Refusal::CutShort = refusal {
                 let unfinished = held(&packet[inside..]);
@@ -42,10 +40,12 @@ pub fn went_on(unfinished: Unfinished, total: usize) -> Ended
     ensures { result ≡ went unfinished total }
 {
     Ended {
-        answer: Answer::Done(Place(total)),
-        unfinished,
-        total: total as u32,
-        kept: Kept::None,
+        answer: Ok(Place(total)),
+        account: Account {
+            unfinished,
+            total: total as u32,
+            kept: None,
+        },
     }
 }
 
@@ -54,11 +54,13 @@ pub fn halts(total: usize, refusal: Refusal, at: usize) -> Ended
     requires { total ≤ 4294967295 }
     ensures { result ≡ halted total refusal at }
 {
-    let answer = refused(refusal, Place(at));
+    let answer = Err(Refused::of(refusal, Place(at)));
     Ended {
         answer,
-        unfinished: Unfinished::None,
-        total: total as u32,
-        kept: Kept::Refused(answer),
+        account: Account {
+            unfinished: Unfinished::None,
+            total: total as u32,
+            kept: Some(answer),
+        },
     }
 }

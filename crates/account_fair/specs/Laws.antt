@@ -1,18 +1,15 @@
 -- What the proofs of this crate lean on. The argument: a cut_off start is told by what is read at its front; and whether a
 -- refusal stands is told by its number, test by test.
-use Rattle.std.specs.Prelude.{ℕ, ◌<◌, ◌≡◌, refl, Bool, true, false, ◌||◌, List, length, eqb}
+use Rattle.std.specs.Prelude.{ℕ, ◌<◌, ◌≡◌, refl, Bool, true, false, ◌||◌, List, length, eqb, Err}
 use Rattle.std.proofs.Common.{arith, sym, ◌∙◌, subst, true≢false}
 use Rattle.rules.specs.Tests.{Tests}
 use Rattle.terms.specs.declared.Part.{Part}
-use Rattle.recording.specs.declared.Read.{Read}
-use Rattle.recording.specs.declared.Read.TheVariants.{Refused}
 use Rattle.recording.specs.declared.Refusal.TheVariants.{CutShort}
-use Rattle.recording.specs.Record.{front}
+use Rattle.recording.specs.Record.{front, Read}
 use Rattle.recording.specs.Append.{Told}
 use Rattle.recording.specs.Start as Start
 use Rattle.recording.specs.Start.{CutOff, cut_off}
-use Rattle.answers.specs.declared.Answer.{Answer}
-use Rattle.answers.specs.Answer.{number}
+use Rattle.answers.specs.Answer.{Answer, number}
 use Rattle.account.specs.Laws.{of_none}
 use Rattle.account_fair.specs.Fair.{stands}
 
@@ -24,12 +21,12 @@ not_so never = record { so = λ e. absurd (true≢false (sym e)); back = λ p. a
 pub cut_none : (p : Part) (l : List ℕ) → length l ≡ 0 → Tests true (CutOff p l)
 cut_none p l e = record { so = λ _. subst (CutOff p) (of_none l e) Start.none; back = λ _. refl }
 
-cut_read : (p : Part) {l : List ℕ} → 0 < length l → CutOff p l → front p l ≡ Refused CutShort
+cut_read : (p : Part) {l : List ℕ} → 0 < length l → CutOff p l → front p l ≡ Err CutShort
 cut_read p some Start.none = absurd (omega (arith, some))
 cut_read p some (Start.some b l q) = q
 
 -- Other bytes are one if they are read as cut short, and none if they tell what they are.
-pub is_cut : (p : Part) (l : List ℕ) → 0 < length l → front p l ≡ Refused CutShort → Tests true (CutOff p l)
+pub is_cut : (p : Part) (l : List ℕ) → 0 < length l → front p l ≡ Err CutShort → Tests true (CutOff p l)
 is_cut p l some q = record { so = λ _. cut_off p l some q; back = λ _. refl }
 
 pub is_told : (p : Part) (l : List ℕ) (r : Read) → 0 < length l → front p l ≡ r → Told r → Tests false (CutOff p l)

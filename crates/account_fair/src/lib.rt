@@ -7,23 +7,19 @@ ghost use Rattle.recording.specs.Start.{CutOff};
 ghost use Rattle.account.specs.Bytes.{bytes_of};
 ghost use Rattle.account_fair.specs.Fair.{MayStand, Fair};
 
-use account::{Kept, Unfinished, count_of, row_of};
-use answers::told_of;
+use account::{Account, Unfinished, count_of, row_of};
+use answers::{Answer, Refused};
 use one_record::record_at;
-use recording::{Read, Refusal};
+use recording::Refusal;
 use terms::{Part, Place};
 
 // Number 2 is for an account that is not fair.
-pub fn is_fair(part: Part, unfinished: Unfinished, total: u32, kept: Kept) -> bool
-    ensures { Tests result (Fair part unfinished total kept) }
+pub fn is_fair(part: Part, account: Account) -> bool
+    ensures { Tests result (Fair part account) }
 {
-    if !is_start(part, unfinished) {
-        return false;
-    }
-    if (total as usize) < count_of(unfinished) {
-        return false;
-    }
-    may_stand(kept)
+    is_start(part, account.unfinished)
+        && count_of(account.unfinished) <= account.total as usize
+        && may_stand(account.kept)
 }
 
 // The cut-off start of a record of this part, or no bytes.
@@ -42,27 +38,20 @@ fn is_cut_short(part: Part, bytes: &[u8]) -> bool
     requires { 0 < length bytes.now }
     ensures { Tests result (CutOff part bytes.now) }
 {
-    let read = record_at(part, bytes, Place(0));
-    match read {
-        Read::Refused(refusal) => match refusal {
-            Refusal::CutShort => true,
-            Refusal::Unlisted => false,
-            Refusal::Foreign => false,
-            Refusal::Forbidden => false,
-        },
-        Read::Is(_, _) => false,
+    match record_at(part, bytes, Place(0)) {
+        Ok(_) => false,
+        Err(refusal) => matches!(refusal, Refusal::CutShort),
     }
 }
 
-fn may_stand(kept: Kept) -> bool
+fn may_stand(kept: Option<Answer>) -> bool
     ensures { Tests result (MayStand kept) }
 {
     match kept {
-        Kept::None => true,
-        Kept::Refused(answer) => {
-            let told = told_of(answer);
-            let number = told.0;
-            number == 5 || number == 6 || number == 8
-        }
+        None => true,
+        Some(answer) => matches!(
+            answer,
+            Err(Refused::Unlisted(_) | Refused::Foreign(_) | Refused::Forbidden(_))
+        ),
     }
 }

@@ -3,22 +3,19 @@ ghost use Rattle.std.specs.Prelude.{◌≤◌, length};
 ghost use Rattle.account.specs.Bytes.{bytes_of};
 ghost use Rattle.account_tests.specs.Close.{Ends};
 
-use account::{Kept, Unfinished, count_of};
-use answers::Answer;
+use account::{Account, count_of};
+use answers::{Answer, Refused};
 use terms::Place;
 
 // An unfinished record comes before a standing refusal.
-pub fn closing(unfinished: Unfinished, total: u32, kept: Kept) -> Answer
-    requires { length (bytes_of unfinished) ≤ total }
-    ensures { Ends unfinished total kept result }
+pub fn closing(account: Account) -> Answer
+    requires { length (bytes_of account.unfinished) ≤ account.total }
+    ensures { Ends account result }
 {
-    let count = count_of(unfinished);
-    let total = total as usize;
+    let count = count_of(account.unfinished);
+    let total = account.total as usize;
     if 0 < count {
-        return Answer::CutShort(Place(total - count));
+        return Err(Refused::CutShort(Place(total - count)));
     }
-    match kept {
-        Kept::None => Answer::Done(Place(total)),
-        Kept::Refused(answer) => answer,
-    }
+    account.kept.unwrap_or(Ok(Place(total)))
 }

@@ -1,17 +1,20 @@
 // What a call that reads a recording answers.
 #![tactic(auto)]
 
-ghost use Rattle.std.specs.Prelude.{◌≡◌};
+ghost use Rattle.std.specs.Prelude.{◌≡◌, Err};
+ghost use Rattle.answers.specs.declared.Refused.TheVariants.{NoPart};
 ghost use Rattle.answers.specs.Answer.{refused_as, number, place};
 ghost use Rattle.answers.specs.Ended.{Inside, ended_as};
 
-use recording::{Ending, Refusal};
-use terms::Place;
+use recording::{Refusal, Stop};
+use terms::{NoPart, Place};
 
-// Done, with the recording's length, or why not: numbers 1 to 8, each at its place.
-#[derive(Clone, Copy)]
-pub enum Answer {
-    Done(Place),
+// Done, with the recording's length, or why not.
+pub type Answer = Result<Place, Refused>;
+
+// Why not: numbers 1 to 8, each at its place.
+#[derive(Clone, Copy, Debug, PartialEq, Eq)]
+pub enum Refused {
     NoPart(Place),
     OutOfRange(Place),
     BeyondEnd(Place),
@@ -22,54 +25,60 @@ pub enum Answer {
     Forbidden(Place),
 }
 
-// What tests that come before any record give.
-#[derive(Clone, Copy)]
-pub enum Trial {
-    // The records are looked at next.
-    Passed,
-    Refused(Answer),
+impl Refused {
+    // A record's refusal, at the place that it points at.
+    pub fn of(refusal: Refusal, at: Place) -> Refused
+        ensures { Err result ≡ refused_as refusal at }
+    {
+        match refusal {
+            Refusal::Unlisted => Refused::Unlisted(at),
+            Refusal::Foreign => Refused::Foreign(at),
+            Refusal::CutShort => Refused::CutShort(at),
+            Refusal::Forbidden => Refused::Forbidden(at),
+        }
+    }
 }
 
-// The answer to a refusal, at the place that it points at.
-pub fn refused(refusal: Refusal, at: Place) -> Answer
-    ensures { result ≡ refused_as refusal at }
-{
-    match refusal {
-        Refusal::Unlisted => Answer::Unlisted(at),
-        Refusal::Foreign => Answer::Foreign(at),
-        Refusal::CutShort => Answer::CutShort(at),
-        Refusal::Forbidden => Answer::Forbidden(at),
+impl From<NoPart> for Refused {
+    ghost from_gives = { λ no_part refused. refused ≡ NoPart no_part.0 };
+
+    fn from(no_part: NoPart) -> Refused {
+        Refused::NoPart(no_part.0)
     }
 }
 
 // The answer where the records end: done at the recording's length, or refused at the place that the refusal points at. The records began at the
 // place `from`, and places are counted from the recording's front.
-pub fn ended(ending: Ending, from: usize, length: usize) -> Answer
+pub fn ended(ending: Result<(), Stop>, from: usize, length: usize) -> Answer
     requires { Inside ending from length }
     ensures { result ≡ ended_as ending from length }
 {
     match ending {
-        Ending::Done => Answer::Done(Place(length)),
-        Ending::Stops(refusal, at) => refused(refusal, Place(from + at.0)),
+        Ok(()) => Ok(Place(length)),
+        Err(Stop { refusal, at }) => Err(Refused::of(refusal, Place(from + at.0))),
     }
 }
 
 // Paper 01's number of an answer, and its place.
-#[derive(Clone, Copy)]
-pub struct Told(pub u8, pub Place);
+#[derive(Clone, Copy, Debug, PartialEq, Eq)]
+pub struct Told {
+    pub number: u8,
+    pub place: Place,
+}
 
 pub fn told_of(answer: Answer) -> Told
-    ensures { (result.0 ≡ number answer) × (result.1.0 ≡ place answer) }
+    ensures { (result.number ≡ number answer) × (result.place.0 ≡ place answer) }
 {
-    match answer {
-        Answer::Done(at) => Told(0, at),
-        Answer::NoPart(at) => Told(1, at),
-        Answer::OutOfRange(at) => Told(2, at),
-        Answer::BeyondEnd(at) => Told(3, at),
-        Answer::TooLong(at) => Told(4, at),
-        Answer::Unlisted(at) => Told(5, at),
-        Answer::Foreign(at) => Told(6, at),
-        Answer::CutShort(at) => Told(7, at),
-        Answer::Forbidden(at) => Told(8, at),
-    }
+    let (number, place) = match answer {
+        Ok(at) => (0, at),
+        Err(Refused::NoPart(at)) => (1, at),
+        Err(Refused::OutOfRange(at)) => (2, at),
+        Err(Refused::BeyondEnd(at)) => (3, at),
+        Err(Refused::TooLong(at)) => (4, at),
+        Err(Refused::Unlisted(at)) => (5, at),
+        Err(Refused::Foreign(at)) => (6, at),
+        Err(Refused::CutShort(at)) => (7, at),
+        Err(Refused::Forbidden(at)) => (8, at),
+    };
+    Told { number, place }
 }

@@ -5,28 +5,28 @@ ghost use Rattle.std.specs.Prelude.{◌+◌, ◌≤◌, ◌≡◌, ◌++◌, len
 ghost use Rattle.account.specs.Bytes.{bytes_of, first_place};
 ghost use Rattle.account_ends.specs.Ended.{Goes, halted};
 
-use account::{Unfinished, count_of, held, joined};
+use account::{Account, count_of, held, joined};
 use account_ends::{Ended, halts, went_on};
 use recording::Refusal;
 use terms::Place;
 
 // The record that was begun is still not whole: all its bytes are kept.
-pub fn put_off(unfinished: Unfinished, total: u32, packet: &[u8]) -> Ended
-    requires { (length (bytes_of unfinished) + length packet.now ≤ 4) × (total + length packet.now ≤ 4294967295) }
-    ensures { Goes (total + length packet.now) (bytes_of unfinished ++ packet.now) result }
+pub fn put_off(account: Account, packet: &[u8]) -> Ended
+    requires { (length (bytes_of account.unfinished) + length packet.now ≤ 4) × (account.total + length packet.now ≤ 4294967295) }
+    ensures { Goes (account.total + length packet.now) (bytes_of account.unfinished ++ packet.now) result }
 {
-    let row = joined(unfinished, packet);
-    let all = count_of(unfinished) + packet.len();
-    went_on(held(&row[..all]), total as usize + packet.len())
+    let row = joined(account.unfinished, packet);
+    let all = count_of(account.unfinished) + packet.len();
+    went_on(held(&row[..all]), account.total as usize + packet.len())
 }
 
 // The record that was begun is refused; it starts where its first byte stood, and the refusal points `at.0` bytes behind that.
-pub fn begun_refused(unfinished: Unfinished, total: u32, refusal: Refusal, at: Place) -> Ended
-    requires { (length (bytes_of unfinished) ≤ total) × (at.0 ≤ 4) }
-    ensures { result ≡ halted total refusal (first_place unfinished total + at.0) }
+pub fn begun_refused(account: Account, refusal: Refusal, at: Place) -> Ended
+    requires { (length (bytes_of account.unfinished) ≤ account.total) × (at.0 ≤ 4) }
+    ensures { result ≡ halted account.total refusal (first_place account.unfinished account.total + at.0) }
 {
-    let before = total as usize;
-    let first = before - count_of(unfinished);
+    let before = account.total as usize;
+    let first = before - count_of(account.unfinished);
     let place = first + at.0;
     halts(before, refusal, place)
 }

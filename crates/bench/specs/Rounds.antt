@@ -1,7 +1,6 @@
 -- What the program gives: the checksum of rounds that take one recording, whole or in packets, from one start.
 use Rattle.std.specs.Prelude.{ℕ, zero, suc, ◌+◌, ◌*◌, ◌<◌, ◌≤◌, ◌≡◌, List, length, get_or, take, drop}
-use Rattle.terms.specs.declared.PartRead.{PartRead}
-use Rattle.terms.specs.Part.{part_of}
+use Rattle.terms.specs.Part.{PartRead, part_of}
 use Rattle.panel.specs.declared.Panel.{Panel}
 use Rattle.feed.specs.declared.Feed.{Feed}
 use Rattle.feed.specs.Feed.{opening}

@@ -4,9 +4,7 @@ use Rattle.rules.specs.Choice.{whether}
 use Rattle.fact.specs.declared.Single.{Single}
 use Rattle.fact.specs.declared.Single.TheVariants.{Unknown}
 use Rattle.segment_knowledge.specs.declared.Control as Segment
-use Rattle.segment_knowledge.specs.declared.Pointing.TheVariants as OfSegment
 use Rattle.character_knowledge.specs.declared.Control as Character
-use Rattle.fact.specs.declared.Pointing.TheVariants as OfCharacter
 use Rattle.panel.specs.declared.Panel.{Panel}
 use Rattle.replay.specs.declared.replays.Replayed.{Replayed}
 use Rattle.replay.specs.FromNothing.{FromNothing}
@@ -16,13 +14,13 @@ use Rattle.bench.specs.declared.start.Marks.{Marks}
 abbrev pub unless : {A : Type 0} → ℕ → A → A → A
 unless mark fact unknown = whether (eqb mark 0) fact unknown
 
-abbrev pub kept : ℕ → Single → Single
+abbrev pub kept : ℕ → Single ℕ → Single ℕ
 kept mark fact = unless mark fact Unknown
 
 abbrev pub less_of_segment : Marks → Segment.Control → Segment.Control
 less_of_segment m c =
     record {
-      address = unless m.addresses c.address OfSegment.Unknown;
+      address = unless m.addresses c.address Unknown;
       «data» = kept m.«data» c.«data»;
       stepping = c.stepping;
       mode = c.mode;
@@ -39,9 +37,9 @@ less_of_segment m c =
 abbrev pub less_of_character : Marks → Character.Control → Character.Control
 less_of_character m c =
     record {
-      dcram_at = unless m.addresses c.dcram_at OfCharacter.Unknown;
-      cgram_at = unless m.addresses c.cgram_at OfCharacter.Unknown;
-      adram_at = unless m.addresses c.adram_at OfCharacter.Unknown;
+      dcram_at = unless m.addresses c.dcram_at Unknown;
+      cgram_at = unless m.addresses c.cgram_at Unknown;
+      adram_at = unless m.addresses c.adram_at Unknown;
       column = kept m.addresses c.column;
       port = c.port;
       duty = c.duty;

@@ -14,40 +14,26 @@ ghost use Rattle.std.specs.Prelude.{◌≡◌, ◌<◌, get_or, take, drop};
 ghost use Rattle.bench.specs.Rounds.{number_at, Measures};
 
 use checksum::Sum;
-use input::{Input, Stream, failed, read_input};
+use input::{run_on, status_of};
 use rounds::summed;
 use start::{Marks, started};
 use std::process::ExitCode;
 
-fn main(rt: HostRuntime) -> ExitCode {
-    let mut stream = Stream::new(rt.stdin());
-    let mut input = room();
-    match read_input(&mut stream, &mut input) {
-        Input::Whole(n) => print(&rt, measured(&input[..n])),
-        Input::Full => print(&rt, measured(&input)),
-        Input::Failed => {
-            let what = "bench: the input could not be read to its end";
-            failed(&rt, what, stream.error)
-        }
-    }
-}
+// Behind the longest prelude there is room for a byte more than the longest recording that is allowed, as the mirror takes it.
+const ROOM: usize = 131083;
 
-// Behind the longest prelude there is room for a byte more than the longest recording that is allowed, as the mirror takes it. A function of its own, since
-// a proof that sees so long a row counts it.
-fn room() -> [u8; 131083] {
-    [0u8; 131083]
+fn main(rt: HostRuntime) -> ExitCode {
+    run_on::<ROOM, _, _>(
+        &rt,
+        "bench",
+        rt.stdin(),
+        |input| print(&rt, measured(input)),
+    )
 }
 
 fn print(rt: &(impl Print + Eprint), sum: Sum) -> ExitCode {
     let number = sum.0;
-    match println!(rt; "{number}") {
-        Ok(()) => ExitCode::SUCCESS,
-        Err(e) => failed(
-            rt,
-            "bench: the checksum could not be written whole",
-            Some(e),
-        ),
-    }
+    status_of(rt, "bench", "checksum", println!(rt; "{number}"))
 }
 
 fn measured(input: &[u8]) -> Sum
@@ -72,32 +58,26 @@ fn number(input: &[u8], i: usize) -> usize
     requires { i < 8 }
     ensures { (result ≡ number_at input.now i) × (result < 65536) }
 {
-    let low = byte(input, i);
-    let high = byte(input, i + 1);
-    low as usize + high as usize * 256
+    u16::from_le_bytes([byte(input, i), byte(input, i + 1)]) as usize
 }
 
 // A byte that is missing counts as 0.
 fn byte(input: &[u8], i: usize) -> u8
     ensures { result ≡ get_or input.now i 0 }
 {
-    if i < input.len() { input[i] } else { 0 }
+    input.get(i).copied().unwrap_or(0)
 }
 
 // The first n bytes, or all where there are fewer.
 fn front(bytes: &[u8], n: usize) -> &[u8]
     ensures { result.now ≡ take n bytes.now }
 {
-    if n < bytes.len() { &bytes[..n] } else { bytes }
+    bytes.get(..n).unwrap_or(bytes)
 }
 
 // What stands behind those.
 fn behind(bytes: &[u8], n: usize) -> &[u8]
     ensures { result.now ≡ drop n bytes.now }
 {
-    if n < bytes.len() {
-        &bytes[n..]
-    } else {
-        &bytes[..0]
-    }
+    bytes.get(n..).unwrap_or(&[])
 }

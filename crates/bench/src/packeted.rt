@@ -7,20 +7,20 @@ use packets::taken;
 use panel::Panel;
 use replay::Replayed;
 
-// The last packet has what is left, so that an empty recording is one empty packet.
+// The last packet has what is left, so that an empty recording is one empty packet, where `chunks` would give none.
 pub fn in_packets(size: usize, part: u8, start: Panel, recording: &[u8]) -> Replayed
     requires { 0 < size }
     ensures { InPackets size part start recording.now result }
 {
     let mut feed = opened(start);
-    let mut at = 0;
-    while size < recording.len() - at {
-        let end = at + size;
-        let taken = taken(part, feed, &recording[at..end]);
+    let mut left = recording;
+    while size < left.len() {
+        let (packet, behind) = left.split_at(size);
+        let taken = taken(part, feed, packet);
         feed = taken.feed;
-        at = end;
+        left = behind;
     }
-    let last = taken(part, feed, &recording[at..]);
+    let last = taken(part, feed, left);
     let after = last.feed;
     let answer = closed(part, after);
     let panel = after.panel;

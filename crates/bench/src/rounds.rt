@@ -5,11 +5,10 @@ ghost use Rattle.checksum.specs.Panels.{part_sum};
 ghost use Rattle.bench.specs.Rounds.{Summed};
 
 use crate::packeted::in_packets;
-use answers::Answer;
 use checksum::{Sum, answer_in, panel_in};
 use panel::Panel;
 use replay::{Replayed, replay};
-use terms::{PartRead, Place, part_of};
+use terms::{Part, Place};
 
 // What a round ends with stays where it is put, and the start is lent to each round as it is, so that no copy is measured that a caller would not make.
 pub fn summed(rounds: usize, size: usize, part: u8, start: Panel, recording: &[u8]) -> Sum
@@ -17,11 +16,10 @@ pub fn summed(rounds: usize, size: usize, part: u8, start: Panel, recording: &[u
 {
     let mut sum = Sum(0);
     let mut last = Replayed {
-        answer: Answer::Done(Place(0)),
+        answer: Ok(Place(0)),
         panel: start,
     };
-    let mut i = 0;
-    while i < rounds {
+    for _round in 0..rounds {
         if size == 0 {
             last = replay(part, start, recording, Place(0));
         } else {
@@ -29,7 +27,6 @@ pub fn summed(rounds: usize, size: usize, part: u8, start: Panel, recording: &[u
         }
         let answer = last.answer;
         sum = answer_in(sum, answer);
-        i += 1;
     }
     known_in(sum, part, last.panel)
 }
@@ -38,8 +35,8 @@ pub fn summed(rounds: usize, size: usize, part: u8, start: Panel, recording: &[u
 fn known_in(sum: Sum, part: u8, panel: Panel) -> Sum
     ensures { result.0 ≡ part_sum sum.0 (part_of part) panel }
 {
-    match part_of(part) {
-        PartRead::Is(is) => panel_in(sum, is, panel),
-        PartRead::Refused(_) => sum,
+    match Part::try_from(part) {
+        Ok(part) => panel_in(sum, part, panel),
+        Err(_) => sum,
     }
 }

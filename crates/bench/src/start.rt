@@ -8,7 +8,7 @@ use panel::Panel;
 use replay::from_nothing;
 use segment_knowledge::Control as Segment;
 
-// For each of these facts, whether it is forgotten: 0 is for no.
+// For each of these facts, whether it is forgotten: 0 is for no. They are bytes as they are read, which `Start.unless` looks at.
 #[derive(Clone, Copy)]
 pub struct Marks {
     pub position: u8,
@@ -68,7 +68,7 @@ fn less_of_character(marks: Marks, c: Character) -> Character
 }
 
 // A fact that is forgotten where it has a mark.
-fn kept(mark: u8, fact: Single) -> Single
+fn kept(mark: u8, fact: Single<u8>) -> Single<u8>
     ensures { result ≡ kept mark fact }
 {
     if mark == 0 { fact } else { Single::Unknown }

@@ -4,6 +4,7 @@
 
 mod passing;
 mod sharing;
+mod starting;
 
-pub use passing::passed;
-pub use sharing::{Common, shared};
+pub use sharing::Common;
+pub use starting::ByteRun;

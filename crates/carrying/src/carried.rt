@@ -8,24 +8,19 @@ ghost use Rattle.carrying.specs.Carried.{read_as, tested_as};
 use recording::{bits_allowed, fourth_allowed, has_keys, has_switches, switches_allowed};
 use terms::{Event, Part};
 
-#[derive(Clone, Copy)]
-pub enum Carried {
-    Yes,
+#[derive(Clone, Copy, Debug, PartialEq, Eq)]
+pub enum Uncarried {
     // Number 6: the part has no such event.
     Foreign,
     // Number 8: a value that the event carries is not allowed.
     Forbidden,
 }
 
-pub fn carries(part: Part, event: Event) -> Carried
+pub fn carries(part: Part, event: Event) -> Result<(), Uncarried>
     ensures { front part (recorded event) ≡ read_as event result }
 {
     match event {
-        Event::Power => Carried::Yes,
-        Event::Falls => Carried::Yes,
-        Event::ByteIn(_) => Carried::Yes,
-        Event::Rises => Carried::Yes,
-        Event::Gap => Carried::Yes,
+        Event::Power | Event::Falls | Event::ByteIn(_) | Event::Rises | Event::Gap => Ok(()),
         Event::Unfinished(bits) => tested(true, bits_allowed(bits)),
         Event::Keys(_, _, _, fourth) => tested(has_keys(part), fourth_allowed(part, fourth)),
         Event::Switches(value) => tested(has_switches(part), switches_allowed(value)),
@@ -34,16 +29,14 @@ pub fn carries(part: Part, event: Event) -> Carried
 }
 
 // 6 is looked at before 8.
-fn tested(belongs: bool, allowed: bool) -> Carried
+fn tested(belongs: bool, allowed: bool) -> Result<(), Uncarried>
     ensures { result ≡ tested_as belongs allowed }
 {
-    if belongs {
-        if allowed {
-            Carried::Yes
-        } else {
-            Carried::Forbidden
-        }
-    } else {
-        Carried::Foreign
+    if !belongs {
+        return Err(Uncarried::Foreign);
     }
+    if !allowed {
+        return Err(Uncarried::Forbidden);
+    }
+    Ok(())
 }

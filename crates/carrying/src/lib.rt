@@ -3,4 +3,4 @@
 
 mod carried;
 
-pub use carried::{Carried, carries};
+pub use carried::{Uncarried, carries};

@@ -1,6 +1,6 @@
 -- Laws of changes: what is left of one that may have happened is told code by code and stays within the row, and what a change of codes does is what it says.
 use Rattle.std.specs.Prelude.{ℕ, zero, suc, ◌+◌, ◌*◌, ◌<◌, ◌≤◌, ◌≡◌, refl, Bool, true, false, ◌||◌, List, length, get_or, set, eqb, ltb}
-use Rattle.std.proofs.Common.{arith, add-one, sym, ap, ◌∙◌, subst, true≢false, length-set, get_or-set_same, get_or-set_other, eqb-true, eq-eqb, ne_eqb, lt-ltb, le-ltb, below_more}
+use Rattle.std.proofs.Common.{arith, add-one, sym, ap, ◌∙◌, true≢false, length-set, get_or-set_same, get_or-set_other, eqb-true, eq-eqb, ne_eqb, lt-ltb, le-ltb, below_more}
 use Rattle.std.proofs.Math.Decide.{dec_lt, ℕ_discrete}
 use Rattle.std.proofs.Math.Nat.{mul-lt-mul_of_pos_left}
 use Rattle.rules.specs.Digit.{digit}
@@ -58,14 +58,6 @@ loose_inside room Keep h = h
 loose_inside room (Put a b) h = (omega arith, λ j l. omega arith)
 loose_inside room (Meet a by n b) h = h
 loose_inside room Forget h = h
-
--- One code more is forgotten.
-pub forgot_more : (l : List ℕ) (n : ℕ) → ((i : ℕ) → i < n → get_or l i 0 ≡ 0) → n < length l → (i : ℕ) → i < n + 1 → get_or (set l n 0) i 0 ≡ 0
-forgot_more l n h room i o = go (ℕ_discrete i n)
-  where
-    go : Dec (i ≡ n) → get_or (set l n 0) i 0 ≡ 0
-    go (yes p) = rw p (get_or-set_same l n 0 0 room)
-    go (no p) = get_or-set_other l n i 0 0 p ∙ h i (omega arith)
 
 -- The first n codes agree with the byte b: wherever it went, they are as they were.
 abbrev pub AgreeTo : List ℕ → ℕ → ℕ → Type 0
@@ -162,12 +154,6 @@ met_more wide c l r from by n x step m h e = record {
     once : (t u : Bool) (s : Standing) (f : Standing → Standing) → (t ≡ true → u ≡ false) → whether t (f (whether u (f s) s)) (whether u (f s) s) ≡ whether (t || u) (f s) s
     once true u s f h = rw (h refl) refl
     once false u s f h = refl
-
--- The same where the codes stand side by side.
-pub met_run : (wide c : ℕ) (l r : List ℕ) (from n x : ℕ) → Met wide c l from 1 n r → from + n < length r → Meets wide c (get_or r (from + n) 0) x → Met wide c l from 1 (n + 1) (set r (from + n) x)
-met_run wide c l r from n x m =
-    let z : from + 1 * n ≡ from + n = omega arith in
-    subst (λ (k : ℕ). k < length r → Meets wide c (get_or r k 0) x → Met wide c l from 1 (n + 1) (set r k x)) z (met_more wide c l r from 1 n x (omega arith) m)
 
 -- Where the code is that of a byte, the byte may have gone to them.
 pub met_byte : (w wide b c : ℕ) (l r : List ℕ) (from by n : ℕ) → Wide w wide → OfByte w b c → Met wide c l from by n r → Changes w (Meet (record { 0 = from }) by n b) l r

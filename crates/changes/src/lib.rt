@@ -6,7 +6,7 @@ mod rows;
 ghost use Rattle.std.specs.Prelude.{◌≡◌};
 ghost use Rattle.changes.specs.Change.{loose};
 
-pub use rows::{all_agree, forget, meet, meet_one, meet_run};
+pub use rows::{all_agree, forget, meet, meet_one};
 use terms::Address;
 
 // A small value: the row itself is changed once, where it stands.

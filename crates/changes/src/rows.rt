@@ -8,30 +8,15 @@ ghost use Rattle.changes.specs.declared.Change.TheVariants.{Meet};
 use lamps::{EIGHT, code_of, meet_code};
 use terms::Address;
 
-// What the code `c` says may have gone to any of these codes: `count` of them, from `from` on, one in `by`. Each keeps what it has in common with `c`.
+// What the code `c` says may have gone to any of these codes: `count` of them, from `from` on, one in `by`. Each keeps what it has in common with `c`, which
+// may be what a whole run of bytes has in common, so that one loop does for the run.
 pub fn meet(codes: &mut [u16], wide: u16, from: usize, by: usize, count: usize, c: u16)
     requires { (0 < by) × ((i : ℕ) → i < count → from + by * i < length codes.old) }
     ensures { Met wide c codes.old from by count codes.new }
 {
-    let mut i = 0;
-    while i < count {
+    for i in 0..count {
         let at = from + by * i;
         codes[at] = meet_code(wide, codes[at], c);
-        i += 1;
-    }
-}
-
-// The same for codes that stand side by side, a loop that goes quickly. It is public for a caller that has the code of what a run of bytes has in
-// common, so that one loop does for the whole run.
-pub fn meet_run(codes: &mut [u16], wide: u16, from: usize, count: usize, c: u16)
-    requires { (i : ℕ) → i < count → from + 1 * i < length codes.old }
-    ensures { Met wide c codes.old from 1 count codes.new }
-{
-    let mut i = 0;
-    while i < count {
-        let at = from + i;
-        codes[at] = meet_code(wide, codes[at], c);
-        i += 1;
     }
 }
 
@@ -48,11 +33,7 @@ pub fn meet_one(codes: &mut [u16], wide: u16, cell: Address, byte: u8)
 pub fn forget(codes: &mut [u16])
     ensures { (w i k : ℕ) → held w codes.new i k ≡ unknown }
 {
-    let mut i = 0;
-    while i < codes.len() {
-        codes[i] = 0;
-        i += 1;
-    }
+    codes.fill(0);
 }
 
 // Every bit of eight that is known of a code is that of the byte, so that wherever the byte went, it changes none. The loop stops nowhere, so that it can go over several codes at once.
@@ -61,10 +42,8 @@ pub fn all_agree(codes: &[u16], byte: u8) -> bool
 {
     let c = code_of(EIGHT, byte);
     let mut agree = true;
-    let mut i = 0;
-    while i < codes.len() {
-        agree = agree & (meet_code(EIGHT, codes[i], c) == codes[i]);
-        i += 1;
+    for code in codes {
+        agree &= meet_code(EIGHT, *code, c) == *code;
     }
     agree
 }

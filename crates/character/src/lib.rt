@@ -2,8 +2,10 @@
 #![tactic(auto)]
 
 mod command;
+mod numbers;
 
 pub use command::{Command, command_of};
+pub use numbers::{ADRAM, CGRAM, DCRAM, FIRST, IDLE, IGNORING, NORMAL, OFF, ON};
 use terms::Address;
 
 #[derive(Clone, Copy)]
@@ -55,7 +57,7 @@ pub const NONE: Anything = Anything {
     position: false,
 };
 
-// The chip after a move, and which of its facts are anything: those stand there as they were.
+// The chip after a move, and which of its facts are anything: those stand there as they were. One type for this and `segment::Moved` would be two parameters and say nothing.
 #[derive(Clone, Copy)]
 pub struct Moved {
     pub chip: Character,

@@ -16,29 +16,15 @@ pub fn answer_to(picture: CharacterPicture, room: usize) -> Painted
 fn fits(picture: CharacterPicture) -> bool
     ensures { result ≡ character_fits picture }
 {
-    let cgram = picture.cgram;
-    let adram = picture.adram;
-    if all_below(128, &cgram) {
-        if all_below(4, &adram) {
-            if picture.port < 4 {
-                if picture.duty < 8 {
-                    return picture.digits < 8;
-                }
-            }
-        }
-    }
-    false
+    all_below(128, &picture.cgram)
+        && all_below(4, &picture.adram)
+        && picture.port < 4
+        && picture.duty < 8
+        && picture.digits < 8
 }
 
 fn all_below(limit: u8, values: &[u8]) -> bool
     ensures { result ≡ all_below limit values.now }
 {
-    let mut i = 0;
-    while i < values.len() {
-        if limit <= values[i] {
-            return false;
-        }
-        i += 1;
-    }
-    true
+    values.iter().all(|value| *value < limit)
 }

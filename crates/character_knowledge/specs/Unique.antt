@@ -1,13 +1,11 @@
 -- Two knowledges that say the same are equal. The argument: there is one code for each standing, and each field is that of a fact.
-use Rattle.std.specs.Prelude.{◌≡◌, refl, length}
-use Rattle.std.proofs.Common.{sym}
-use Rattle.knowing.specs.Join.{not_known, known_one}
-use Rattle.fact.specs.View.{same_single}
+use Rattle.std.specs.Prelude.{◌≡◌, length}
+use Rattle.fact.specs.declared.Single.{Single}
+use Rattle.fact.specs.View.{same_fact, same_single}
 use Rattle.lamps.specs.Lamp.{one_code}
 use Rattle.lamps.specs.Row.{one_row}
 use Rattle.character.specs.Fact.{Fact, dcram, cgram, adram, dcram_at, cgram_at, adram_at, column, port, duty, digits, lights, position}
-use Rattle.fact.specs.declared.Pointing.{Pointing}
-use Rattle.fact.specs.declared.Pointing.TheVariants.{At, Unknown}
+use Rattle.terms.specs.declared.Address.{Address}
 use Rattle.character_knowledge.specs.declared.Knowledge.{Knowledge}
 use Rattle.character_knowledge.specs.View.{points, kview}
 
@@ -17,13 +15,11 @@ pub record Shaped (k : Knowledge) : Type 0 where
   pub cgram : length k.cgram ≡ 40
   pub adram : length k.adram ≡ 16
 
-same_pointing : (a b : Pointing) → points a ≡ points b → a ≡ b
-same_pointing (At x) (At y) e =
-    let z : x.0 ≡ y.0 = known_one x.0 y.0 e in
-    λ i. At (record { 0 = z i })
-same_pointing (At x) Unknown e = absurd (not_known x.0 (sym e))
-same_pointing Unknown (At y) e = absurd (not_known y.0 e)
-same_pointing Unknown Unknown e = refl
+same_address : (a b : Address) → a.0 ≡ b.0 → a ≡ b
+same_address a b e = λ i. record { 0 = e i }
+
+same_pointing : (a b : Single Address) → points a ≡ points b → a ≡ b
+same_pointing = same_fact (λ a. a.0) same_address
 
 pub same_knowledge : (a b : Knowledge) → Shaped a → Shaped b → ((f : Fact) → kview a f ≡ kview b f) → a ≡ b
 same_knowledge a b sa sb h =

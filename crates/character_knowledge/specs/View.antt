@@ -3,17 +3,17 @@ use Rattle.std.specs.Prelude.{ℕ}
 use Rattle.rules.specs.Rule.{Rule}
 use Rattle.knowing.specs.Standing as Of
 use Rattle.knowing.specs.Ways as Ways
-use Rattle.fact.specs.View.{stands}
+use Rattle.fact.specs.View.{stands, standing}
 use Rattle.lamps.specs.View.{shown, held}
 use Rattle.character.specs.Fact.{Fact, same?, range, text_bits, column_bits, pair_bits, port_bits, dcram, cgram, adram, dcram_at, cgram_at, adram_at, column, port, duty, digits, lights, position}
-use Rattle.fact.specs.declared.Pointing.{Pointing}
-use Rattle.fact.specs.declared.Pointing.TheVariants.{At, Unknown}
+use Rattle.fact.specs.declared.Single.{Single}
+use Rattle.terms.specs.declared.Address.{Address}
 use Rattle.character_knowledge.specs.declared.Control.{Control}
 use Rattle.character_knowledge.specs.declared.Knowledge.{Knowledge}
 
-abbrev pub points : Pointing → Of.Standing
-points (At a) = Of.known a.0
-points Unknown = Of.unknown
+-- What is known of an address: the number of its cell, or nothing.
+abbrev pub points : Single Address → Of.Standing
+points = standing (λ a. a.0)
 
 -- What is known of each bit of each cell of the three RAMs.
 pub record Memory : Type 0 where

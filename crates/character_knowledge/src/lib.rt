@@ -1,17 +1,18 @@
 // What is known of a PT6302 panel, as a value.
 #![tactic(auto)]
 
-mod numbers;
-
 ghost use Rattle.std.specs.Prelude.{◌≡◌};
 ghost use Rattle.knowing.specs.Standing.{unknown};
 ghost use Rattle.knowing.specs.Ways.{Learns};
 ghost use Rattle.character.specs.Fact.{Fact, same?, position};
 ghost use Rattle.character_knowledge.specs.View.{Memory, blank, cview, kview};
 
-pub use fact::Pointing;
+pub use character::{ADRAM, CGRAM, DCRAM, FIRST, IDLE, IGNORING, NORMAL, OFF, ON};
 use fact::Single;
-pub use numbers::{ADRAM, CGRAM, DCRAM, FIRST, IDLE, IGNORING, NORMAL, OFF, ON};
+use terms::Address;
+
+// An address, known or unknown: it is always that of a cell.
+pub type Pointing = Single<Address>;
 
 // What is known beside the memory: what an event goes by, small enough to be handed on by value. The port is a code of `lamps`, bit by bit.
 #[derive(Clone, Copy)]
@@ -19,12 +20,12 @@ pub struct Control {
     pub dcram_at: Pointing,
     pub cgram_at: Pointing,
     pub adram_at: Pointing,
-    pub column: Single,
+    pub column: Single<u8>,
     pub port: u16,
-    pub duty: Single,
-    pub digits: Single,
-    pub lights: Single,
-    pub position: Single,
+    pub duty: Single<u8>,
+    pub digits: Single<u8>,
+    pub lights: Single<u8>,
+    pub position: Single<u8>,
 }
 
 // Nothing is known.

@@ -14,8 +14,9 @@ use Rattle.knowing.specs.Join.{not_known, same_standing, join_other, join_not, j
 use Rattle.knowing.specs.Look.{look_known, idle_ways}
 use Rattle.knowing.specs.Lost.{common_lost, know_leaves}
 use Rattle.fact.specs.View.{stands}
-use Rattle.fact.specs.declared.Single as Of
-use Rattle.fact.specs.declared.Single.TheVariants.{Known, Unknown as NotKnown}
+use Rattle.fact.specs.declared.Single.{Single}
+use Rattle.fact.specs.declared.Single.TheVariants.{Known, Unknown}
+use Rattle.terms.specs.declared.Address.{Address}
 use Rattle.changes.specs.declared.Change.{Change}
 use Rattle.changes.specs.Change.{seen, Inside, loose}
 use Rattle.changes.specs.Laws.{loose_seen, loose_inside}
@@ -27,8 +28,6 @@ use Rattle.character.specs.Laws.{every, port_undefined}
 use Rattle.character.specs.Range.{two}
 use Rattle.character.specs.Move.{spells, commanded, shown, marked, drawn, byte_in}
 use Rattle.character_knowledge.specs.declared.Control.{Control}
-use Rattle.fact.specs.declared.Pointing.{Pointing}
-use Rattle.fact.specs.declared.Pointing.TheVariants.{At, Unknown}
 use Rattle.character_knowledge.specs.View.{Memory, cview, points}
 use Rattle.character_steps.specs.declared.Step.{Step}
 use Rattle.character_steps.specs.Step.{sview, Steps}
@@ -143,7 +142,7 @@ stood c n = record {
 stands_so : (c : Control) (n : ℕ) (m : Memory) (f : Fact) → cview m (stood c n) f ≡ learn same? position n (cview m c) f
 stands_so c n m = every _ (λ i k. refl) (λ i k. refl) (λ i k. refl) refl refl refl refl (λ k. refl) refl refl refl refl
 
-nowhere : (t : Bool) → whether t Unknown Unknown ≡ Unknown
+nowhere : (t : Bool) → whether {A = Single Address} t Unknown Unknown ≡ Unknown
 nowhere true = refl
 nowhere false = refl
 
@@ -165,7 +164,7 @@ module _ (b : ℕ) (c : Control) where
     pub meets : (m : Memory) (i k : ℕ) → seen 8 x i k (m.dcram i k) ≡ join (m.dcram i k) (ways m (dcram i k) 2)
     pub inside : Inside 16 x
 
-  pub record Draws (x : Change) (at : Pointing) : Type 0 where
+  pub record Draws (x : Change) (at : Single Address) : Type 0 where
     pub meets : (m : Memory) (i k : ℕ) → seen 7 x i k (m.cgram i k) ≡ join (m.cgram i k) (ways m (cgram i k) 3)
     pub goes_on : (m : Memory) → points at ≡ join (points c.cgram_at) (ways m cgram_at 3)
     pub inside : Inside 40 x
@@ -182,8 +181,8 @@ module _ (b : ℕ) (c : Control) where
           let w = goes position (byte_in b) c 2 (stood c 2) (changed_in text d x) (stands_so c 2) h in
           record { meets = λ m i k. loose_seen 8 x i k (m.dcram i k) ∙ ap (join (m.dcram i k)) (w.ways m (dcram i k)); inside = loose_inside 16 x h.inside.0 }
 
-      go : (at : Pointing) → c.dcram_at ≡ at → Texts (met_at at b)
-      go (At a) e = by _ _ (known_step dcram_at (shown b) (stood c 2) _ a.0 (λ m. ap points e) (shown_at b (stood c 2) a.0))
+      go : (at : Single Address) → c.dcram_at ≡ at → Texts (met_at at b)
+      go (Known a) e = by _ _ (known_step dcram_at (shown b) (stood c 2) _ a.0 (λ m. ap points e) (shown_at b (stood c 2) a.0))
       go Unknown e = by _ _ (open_step b text (ap points e))
 
   marks : Marks (met_at c.adram_at b)
@@ -194,14 +193,14 @@ module _ (b : ℕ) (c : Control) where
           let w = goes position (byte_in b) c 4 (stood c 4) (changed_in pairs d x) (stands_so c 4) h in
           record { meets = λ m i k. loose_seen 2 x i k (m.adram i k) ∙ ap (join (m.adram i k)) (w.ways m (adram i k)); inside = loose_inside 16 x h.inside.1.1 }
 
-      go : (at : Pointing) → c.adram_at ≡ at → Marks (met_at at b)
-      go (At a) e = by _ _ (known_step adram_at (marked b) (stood c 4) _ a.0 (λ m. ap points e) (marked_at b (stood c 4) a.0))
+      go : (at : Single Address) → c.adram_at ≡ at → Marks (met_at at b)
+      go (Known a) e = by _ _ (known_step adram_at (marked b) (stood c 4) _ a.0 (λ m. ap points e) (marked_at b (stood c 4) a.0))
       go Unknown e = by _ _ (open_step b pairs (ap points e))
 
   draws : Draws (met_column c.cgram_at c.column b) (stays c.cgram_at c.column)
   draws = go c.cgram_at c.column refl refl
     where
-      by : (d : Control) (x : Change) (at : Pointing) → Steps (look cgram_at (λ a. look column (drawn b a))) (stood c 3) (changed_in columns d x) → points at ≡ join (points c.cgram_at) (points d.cgram_at) → Draws (loose x) at
+      by : (d : Control) (x : Change) (at : Single Address) → Steps (look cgram_at (λ a. look column (drawn b a))) (stood c 3) (changed_in columns d x) → points at ≡ join (points c.cgram_at) (points d.cgram_at) → Draws (loose x) at
       by d x at h e =
           let w = goes position (byte_in b) c 3 (stood c 3) (changed_in columns d x) (stands_so c 3) h in
           record {
@@ -211,27 +210,27 @@ module _ (b : ℕ) (c : Control) where
           }
 
       -- The character is known.
-      in_character : (a n to : ℕ) → c.cgram_at ≡ At (record { 0 = a }) → stands c.column ≡ known n → (n % 5 ≡ 4 → to ≡ (a % 8 + 1) % 8) → (¬ (n % 5 ≡ 4) → to ≡ a)
-          → Steps (look cgram_at (λ a. look column (drawn b a))) (stood c 3) (changed_in columns (placed (stood c 3) (At (record { 0 = to })) (Known ((n % 5 + 1) % 5))) (put_in (a % 8 * 5 + n % 5) b))
+      in_character : (a n to : ℕ) → c.cgram_at ≡ Known (record { 0 = a }) → stands c.column ≡ known n → (n % 5 ≡ 4 → to ≡ (a % 8 + 1) % 8) → (¬ (n % 5 ≡ 4) → to ≡ a)
+          → Steps (look cgram_at (λ a. look column (drawn b a))) (stood c 3) (changed_in columns (placed (stood c 3) (Known (record { 0 = to })) (Known ((n % 5 + 1) % 5))) (put_in (a % 8 * 5 + n % 5) b))
       in_character a n to e q f g =
           known_step cgram_at (λ a. look column (drawn b a)) (stood c 3) _ a (λ m. ap points e)
           (known_step column (drawn b a) (stood c 3) _ n (λ m. q) (drawn_at b (stood c 3) a n to (ap points e) f g))
 
-      at_column : (a n : ℕ) → c.cgram_at ≡ At (record { 0 = a }) → c.column ≡ Known n → Dec (n % 5 ≡ 4) → Draws (met_column (At (record { 0 = a })) (Known n) b) (stays (At (record { 0 = a })) (Known n))
+      at_column : (a n : ℕ) → c.cgram_at ≡ Known (record { 0 = a }) → c.column ≡ Known n → Dec (n % 5 ≡ 4) → Draws (met_column (Known (record { 0 = a })) (Known n) b) (stays (Known (record { 0 = a })) (Known n))
       at_column a n e q (yes z) =
           rw (eq-eqb (n % 5) 4 z)
           (by _ _ Unknown (in_character a n ((a % 8 + 1) % 8) e (ap stands q) (λ y. refl) (λ y. absurd (y z))) (join_other (points c.cgram_at) (known ((a % 8 + 1) % 8)) a ((a % 8 + 1) % 8) (ap points e) refl (λ y. omega arith)))
       at_column a n e q (no z) =
           rw (ne_eqb (n % 5) 4 z)
-          (by _ _ (At (record { 0 = a })) (in_character a n a e (ap stands q) (λ y. absurd (z y)) (λ y. refl)) (sym (ap (λ (s : Standing). join s (known a)) (ap points e) ∙ join_itself (known a))))
+          (by _ _ (Known (record { 0 = a })) (in_character a n a e (ap stands q) (λ y. absurd (z y)) (λ y. refl)) (sym (ap (λ (s : Standing). join s (known a)) (ap points e) ∙ join_itself (known a))))
 
-      go : (at : Pointing) (col : Of.Single) → c.cgram_at ≡ at → c.column ≡ col → Draws (met_column at col b) (stays at col)
-      go (At a) (Known n) e q = at_column a.0 n e q (ℕ_discrete (n % 5) 4)
-      go (At a) NotKnown e q =
+      go : (at : Single Address) (col : Single ℕ) → c.cgram_at ≡ at → c.column ≡ col → Draws (met_column at col b) (stays at col)
+      go (Known a) (Known n) e q = at_column a.0 n e q (ℕ_discrete (n % 5) 4)
+      go (Known a) Unknown e q =
           by _ _ Unknown (known_step cgram_at (λ a. look column (drawn b a)) (stood c 3) _ a.0 (λ m. ap points e) (column_step b (stood c 3) a.0 c.column (ap points e) (ap stands q) (ap stands q)))
           (join_nor (points c.cgram_at) unknown refl)
       go Unknown (Known n) e q = rw (nowhere (eqb (n % 5) 4)) (by _ _ Unknown (character_step b (stood c 3) n (ap points e) (ap stands q)) (join_not (points c.cgram_at) unknown (ap points e)))
-      go Unknown NotKnown e q = by _ _ Unknown (open_step b columns (ap points e, ap stands q)) (join_not (points c.cgram_at) (points c.cgram_at) (ap points e))
+      go Unknown Unknown e q = by _ _ Unknown (open_step b columns (ap points e, ap stands q)) (join_not (points c.cgram_at) (points c.cgram_at) (ap points e))
 
   -- A setting, which only a command sets.
   setting : (m : Memory) (f : Fact) → ram_of f ≡ 3 → ((v : ℕ) → cview m c f ≡ learn same? position v (cview m c) f)

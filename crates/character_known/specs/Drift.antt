@@ -8,8 +8,8 @@ use Rattle.knowing.specs.Know.{join, know}
 use Rattle.knowing.specs.Join.{not_known, join_not}
 use Rattle.knowing.specs.Look.{know_same}
 use Rattle.fact.specs.View.{stands}
-use Rattle.fact.specs.declared.Single as Of
-use Rattle.fact.specs.declared.Single.TheVariants.{Known, Unknown as NotKnown}
+use Rattle.fact.specs.declared.Single.{Single}
+use Rattle.fact.specs.declared.Single.TheVariants.{Known, Unknown}
 use Rattle.lamps.specs.View.{met}
 use Rattle.changes.specs.declared.Change.TheVariants.{Meet}
 use Rattle.changes.specs.Change.{among, met_run}
@@ -22,8 +22,6 @@ use Rattle.character.specs.Fact.{Fact, same?, range, dcram, cgram, adram, dcram_
 use Rattle.character.specs.Laws.{every}
 use Rattle.character.specs.Move.{move}
 use Rattle.character_knowledge.specs.declared.Control.{Control}
-use Rattle.fact.specs.declared.Pointing.{Pointing}
-use Rattle.fact.specs.declared.Pointing.TheVariants.{At, Unknown}
 use Rattle.character_knowledge.specs.View.{Memory, blank, cview, points}
 use Rattle.character_steps.specs.declared.Step.{Step}
 use Rattle.character_steps.specs.Step.{sview, Steps}
@@ -33,16 +31,16 @@ use Rattle.character_known.specs.Weakened.{met_at, met_column, lasts, stays, Wea
 use Rattle.character_known.specs.Anywhere.{anywhere}
 
 -- Of what is unknown, every cell may be the one, and the address stays unknown.
-met_at_lem : (to : Pointing) (b : ℕ) → points to ≡ unknown → met_at to b ≡ met_in text b
-met_at_lem (At a) b e = absurd (not_known a.0 (sym e))
+met_at_lem : (to : Single Address) (b : ℕ) → points to ≡ unknown → met_at to b ≡ met_in text b
+met_at_lem (Known a) b e = absurd (not_known a.0 (sym e))
 met_at_lem Unknown b e = refl
 
-met_column_lem : (to : Pointing) (col : Of.Single) (b : ℕ) → points to ≡ unknown → stands col ≡ unknown → met_column to col b ≡ met_in columns b
-met_column_lem (At a) col b e q = absurd (not_known a.0 (sym e))
+met_column_lem : (to : Single Address) (col : Single ℕ) (b : ℕ) → points to ≡ unknown → stands col ≡ unknown → met_column to col b ≡ met_in columns b
+met_column_lem (Known a) col b e q = absurd (not_known a.0 (sym e))
 met_column_lem Unknown (Known n) b e q = absurd (not_known n (sym q))
-met_column_lem Unknown NotKnown b e q = refl
+met_column_lem Unknown Unknown b e q = refl
 
-stays_lost : (to : Pointing) (col : Of.Single) → points to ≡ unknown → points (stays to col) ≡ unknown
+stays_lost : (to : Single Address) (col : Single ℕ) → points to ≡ unknown → points (stays to col) ≡ unknown
 stays_lost to col e = go (lasts col)
   where
     go : (t : Bool) → points (whether t Unknown to) ≡ unknown

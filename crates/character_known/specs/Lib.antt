@@ -13,3 +13,4 @@ pub mod Aimed
 pub mod Runs
 pub mod Drift
 pub mod Places
+pub mod Together

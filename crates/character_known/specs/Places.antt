@@ -10,7 +10,8 @@ use Rattle.rules.specs.Change.{set_bits}
 use Rattle.knowing.specs.Standing.{known, unknown}
 use Rattle.fact.specs.View.{stands}
 use Rattle.fact.specs.declared.Single.{Single}
-use Rattle.fact.specs.declared.Single.TheVariants.{Known}
+use Rattle.fact.specs.declared.Single.TheVariants.{Known, Unknown}
+use Rattle.terms.specs.declared.Address.{Address}
 use Rattle.changes.specs.declared.Change.{Change}
 use Rattle.changes.specs.declared.Change.TheVariants.{Meet}
 use Rattle.changes.specs.Laws.{put_told}
@@ -18,8 +19,6 @@ use Rattle.character.specs.Fact.{Fact, same?, dcram, cgram, adram, cgram_at, col
 use Rattle.character.specs.Laws.{every, dcram_apart, cgram_apart, adram_apart}
 use Rattle.character.specs.Move.{shown, marked, drawn}
 use Rattle.character_knowledge.specs.declared.Control.{Control}
-use Rattle.fact.specs.declared.Pointing.{Pointing}
-use Rattle.fact.specs.declared.Pointing.TheVariants.{At, Unknown}
 use Rattle.character_knowledge.specs.View.{cview, points}
 use Rattle.character_steps.specs.declared.Step.{Step}
 use Rattle.character_steps.specs.Step.{Steps}
@@ -27,7 +26,7 @@ use Rattle.character_known.specs.Columns.{column_open, character_open}
 use Rattle.character_known.specs.Ram.{Ram, text, columns, pairs, aimed, changed_in, put_in}
 
 -- The same with another place in CGRAM.
-abbrev pub placed : Control → Pointing → Single → Control
+abbrev pub placed : Control → Single Address → Single ℕ → Control
 placed c at col = record {
   dcram_at = c.dcram_at;
   cgram_at = at;
@@ -61,11 +60,11 @@ module _ (b : ℕ) (c : Control) where
 
   -- Both the character and the column are known: behind the last column comes the next character, and before that the address stays.
   pub drawn_at : (a n to : ℕ) → points c.cgram_at ≡ known a → (n % 5 ≡ 4 → to ≡ (a % 8 + 1) % 8) → (¬ (n % 5 ≡ 4) → to ≡ a)
-      → Steps (drawn b a n) c (changed_in columns (placed c (At (record { 0 = to })) (Known ((n % 5 + 1) % 5))) (put_in (a % 8 * 5 + n % 5) b))
+      → Steps (drawn b a n) c (changed_in columns (placed c (Known (record { 0 = to })) (Known ((n % 5 + 1) % 5))) (put_in (a % 8 * 5 + n % 5) b))
   unfolding set_bits
   drawn_at a n to p f g = go (ℕ_discrete (n % 5) 4)
     where
-      go : Dec (n % 5 ≡ 4) → Steps (drawn b a n) c (changed_in columns (placed c (At (record { 0 = to })) (Known ((n % 5 + 1) % 5))) (put_in (a % 8 * 5 + n % 5) b))
+      go : Dec (n % 5 ≡ 4) → Steps (drawn b a n) c (changed_in columns (placed c (Known (record { 0 = to })) (Known ((n % 5 + 1) % 5))) (put_in (a % 8 * 5 + n % 5) b))
       go (yes q) = record {
         knows = λ m. simp (eq-eqb (n % 5) 4 q)
             (every _ (λ i k. refl) (λ i k. put_told same? cgram cgram_apart (cview m c) 7 (a % 8 * 5 + n % 5) b i k) (λ i k. refl) refl (ap known (f q)) refl (ap known (omega arith)) (λ k. refl) refl refl refl refl);
@@ -78,7 +77,7 @@ module _ (b : ℕ) (c : Control) where
       }
 
   -- The character is known, and the column is not.
-  pub column_step : (a : ℕ) (col : Single) → points c.cgram_at ≡ known a → stands c.column ≡ unknown → stands col ≡ unknown
+  pub column_step : (a : ℕ) (col : Single ℕ) → points c.cgram_at ≡ known a → stands c.column ≡ unknown → stands col ≡ unknown
       → Steps (look column (drawn b a)) c (changed_in columns (placed c Unknown col) (Meet (record { 0 = a % 8 * 5 }) 1 5 b))
   column_step a col p u v = record {
     knows = λ m. column_open (cview m c) _ b

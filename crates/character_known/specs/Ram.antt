@@ -12,7 +12,6 @@ use Rattle.character.specs.declared.Position.TheVariants.{Dcram, Cgram, Adram}
 use Rattle.character.specs.Value.{at_position}
 use Rattle.character.specs.Fact.{text_bits, column_bits, pair_bits}
 use Rattle.character_knowledge.specs.declared.Control.{Control}
-use Rattle.fact.specs.declared.Pointing.TheVariants.{At}
 use Rattle.character_knowledge.specs.View.{Memory, points}
 use Rattle.character_steps.specs.declared.Step.{Step}
 use Rattle.character_known.specs.declared.astray.Astray.{Astray}
@@ -41,7 +40,7 @@ place pairs = Adram
 -- The control with the RAM's address at cell n. Behind the last cell comes the first.
 abbrev pub aimed : Ram → Control → ℕ → Control
 aimed text c n = record {
-  dcram_at = At (record { 0 = n % 16 });
+  dcram_at = Known (record { 0 = n % 16 });
   cgram_at = c.cgram_at;
   adram_at = c.adram_at;
   column = c.column;
@@ -53,7 +52,7 @@ aimed text c n = record {
 }
 aimed columns c n = record {
   dcram_at = c.dcram_at;
-  cgram_at = At (record { 0 = n / 5 % 8 });
+  cgram_at = Known (record { 0 = n / 5 % 8 });
   adram_at = c.adram_at;
   column = Known (n % 5);
   port = c.port;
@@ -65,7 +64,7 @@ aimed columns c n = record {
 aimed pairs c n = record {
   dcram_at = c.dcram_at;
   cgram_at = c.cgram_at;
-  adram_at = At (record { 0 = n % 16 });
+  adram_at = Known (record { 0 = n % 16 });
   column = c.column;
   port = c.port;
   duty = c.duty;

@@ -11,7 +11,8 @@ use Rattle.knowing.specs.Standing as Of
 use Rattle.knowing.specs.Know.{lifted, learn, join}
 use Rattle.knowing.specs.Join.{join_itself, join_not}
 use Rattle.fact.specs.declared.Single.{Single}
-use Rattle.fact.specs.declared.Single.TheVariants.{Known, Unknown as NotKnown}
+use Rattle.fact.specs.declared.Single.TheVariants.{Known, Unknown}
+use Rattle.terms.specs.declared.Address.{Address}
 use Rattle.lamps.specs.View.{shown, OfByte, Meets}
 use Rattle.lamps.specs.Lamp.{wide2, byte_none_past, byte_met_code}
 use Rattle.changes.specs.declared.Change.{Change}
@@ -24,27 +25,25 @@ use Rattle.character.specs.Fact.{Fact, same?, dcram, cgram, adram, dcram_at, cgr
 use Rattle.character.specs.Laws.{ports_apart}
 use Rattle.character.specs.Move.{commanded}
 use Rattle.character_knowledge.specs.declared.Control.{Control}
-use Rattle.fact.specs.declared.Pointing.{Pointing}
-use Rattle.fact.specs.declared.Pointing.TheVariants.{At, Unknown}
 use Rattle.character_knowledge.specs.View.{Memory, cview, points}
 
 -- The cells of DCRAM or ADRAM, and the columns of CGRAM, that a byte may have gone to.
-abbrev pub met_at : Pointing → ℕ → Change
-met_at (At a) b = Meet (record { 0 = a.0 % 16 }) 1 1 b
+abbrev pub met_at : Single Address → ℕ → Change
+met_at (Known a) b = Meet (record { 0 = a.0 % 16 }) 1 1 b
 met_at Unknown b = Meet (record { 0 = 0 }) 1 16 b
 
-abbrev pub met_column : Pointing → Single → ℕ → Change
-met_column (At a) (Known n) b = Meet (record { 0 = a.0 % 8 * 5 + n % 5 }) 1 1 b
-met_column (At a) NotKnown b = Meet (record { 0 = a.0 % 8 * 5 }) 1 5 b
+abbrev pub met_column : Single Address → Single ℕ → ℕ → Change
+met_column (Known a) (Known n) b = Meet (record { 0 = a.0 % 8 * 5 + n % 5 }) 1 1 b
+met_column (Known a) Unknown b = Meet (record { 0 = a.0 % 8 * 5 }) 1 5 b
 met_column Unknown (Known n) b = Meet (record { 0 = n % 5 }) 5 8 b
-met_column Unknown NotKnown b = Meet (record { 0 = 0 }) 1 40 b
+met_column Unknown Unknown b = Meet (record { 0 = 0 }) 1 40 b
 
 -- A column may be the last of its character; and the address in CGRAM, where a column may have been drawn or not, stays before the last.
-abbrev pub lasts : Single → Bool
+abbrev pub lasts : Single ℕ → Bool
 lasts (Known n) = eqb (n % 5) 4
-lasts NotKnown = true
+lasts Unknown = true
 
-abbrev pub stays : Pointing → Single → Pointing
+abbrev pub stays : Single Address → Single ℕ → Single Address
 stays to col = whether (lasts col) Unknown to
 
 -- What the command x makes of a fact of c, as a first byte.
@@ -73,7 +72,7 @@ Weakens x c r = (m : Memory) (f : Fact) → cview m r f ≡ left m x c f
 pub same : (s : Of.Standing) → s ≡ join s s
 same s = sym (join_itself s)
 
-pub same_place : (to : Pointing) (col : Single) → points (stays to col) ≡ join (points (stays to col)) (points to)
+pub same_place : (to : Single Address) (col : Single ℕ) → points (stays to col) ≡ join (points (stays to col)) (points to)
 same_place to col = go (lasts col)
   where
     go : (t : Bool) → points (whether t Unknown to) ≡ join (points (whether t Unknown to)) (points to)

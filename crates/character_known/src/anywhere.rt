@@ -9,12 +9,11 @@ ghost use Rattle.character.specs.Move.{byte_in};
 ghost use Rattle.character_steps.specs.Step.{Steps};
 ghost use Rattle.character_known.specs.Weakened.{met_at, met_column, Weakens};
 
-use crate::commanded::lights_number;
 use changes::Change;
 use character::{Command, command_of};
 use character_knowledge::{Control, Pointing};
-use character_steps::{Step, both_pointing, lost};
-use fact::{Single, both_singles};
+use character_steps::{Step, lost};
+use fact::{Single, both};
 use lamps::{TWO, code_of, meet_code};
 use terms::Address;
 
@@ -59,12 +58,12 @@ pub fn weakened(c: Control, command: Command) -> Control
     let mut digits = c.digits;
     let mut lights = c.lights;
     match command {
-        Command::Cgram(address) => cgram_at = both_pointing(cgram_at, Pointing::At(address)),
+        Command::Cgram(address) => cgram_at = both(cgram_at, Pointing::Known(address)),
         Command::Port(bits) => port = meet_code(TWO, port, code_of(TWO, bits)),
-        Command::Duty(value) => duty = both_singles(duty, Single::Known(value)),
-        Command::Digits(value) => digits = both_singles(digits, Single::Known(value)),
+        Command::Duty(value) => duty = both(duty, Single::Known(value)),
+        Command::Digits(value) => digits = both(digits, Single::Known(value)),
         Command::Light(value) => {
-            lights = both_singles(lights, Single::Known(lights_number(value)));
+            lights = both(lights, Single::Known(u8::from(value)));
         }
         Command::Dcram(_) => {}
         Command::Adram(_) => {}
@@ -90,17 +89,17 @@ fn met_cells(to: Pointing, byte: u8) -> Change
     ensures { result ≡ met_at to byte }
 {
     match to {
-        Pointing::At(address) => Change::Meet(Address(address.0 % 16), 1, 1, byte),
+        Pointing::Known(address) => Change::Meet(Address(address.0 % 16), 1, 1, byte),
         Pointing::Unknown => Change::Meet(Address(0), 1, 16, byte),
     }
 }
 
 // The columns of CGRAM.
-fn met_columns(to: Pointing, column: Single, byte: u8) -> Change
+fn met_columns(to: Pointing, column: Single<u8>, byte: u8) -> Change
     ensures { result ≡ met_column to column byte }
 {
     match to {
-        Pointing::At(address) => {
+        Pointing::Known(address) => {
             let first = address.0 % 8 * 5;
             match column {
                 Single::Known(number) => Change::Meet(Address(first + number % 5), 1, 1, byte),

@@ -20,43 +20,31 @@ pub enum Astray {
 pub fn strays(c: Control) -> Astray
     ensures { Gone c result }
 {
-    let position = c.position;
-    let shown = c.dcram_at;
-    let drawn = c.cgram_at;
-    let column = c.column;
-    let marked = c.adram_at;
-    match position {
-        Single::Known(place) => match place {
-            DCRAM => {
-                if let Pointing::Unknown = shown {
-                    return Astray::Shown;
-                }
-            }
-            CGRAM => {
-                if let Pointing::Unknown = drawn {
-                    if let Single::Unknown = column {
-                        return Astray::Drawn;
-                    }
-                }
-            }
-            ADRAM => {
-                if let Pointing::Unknown = marked {
-                    return Astray::Marked;
-                }
-            }
-            _ => {}
-        },
-        Single::Unknown => {
-            if let Pointing::Unknown = shown {
-                if let Pointing::Unknown = drawn {
-                    if let Single::Unknown = column {
-                        if let Pointing::Unknown = marked {
-                            return Astray::Anywhere;
-                        }
-                    }
-                }
-            }
-        }
+    match c {
+        Control {
+            position: Single::Known(DCRAM),
+            dcram_at: Pointing::Unknown,
+            ..
+        } => Astray::Shown,
+        Control {
+            position: Single::Known(CGRAM),
+            cgram_at: Pointing::Unknown,
+            column: Single::Unknown,
+            ..
+        } => Astray::Drawn,
+        Control {
+            position: Single::Known(ADRAM),
+            adram_at: Pointing::Unknown,
+            ..
+        } => Astray::Marked,
+        Control {
+            position: Single::Unknown,
+            dcram_at: Pointing::Unknown,
+            cgram_at: Pointing::Unknown,
+            adram_at: Pointing::Unknown,
+            column: Single::Unknown,
+            ..
+        } => Astray::Anywhere,
+        _ => Astray::Not,
     }
-    Astray::Not
 }

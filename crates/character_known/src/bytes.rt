@@ -30,13 +30,13 @@ pub fn byte_in(c: Control, byte: u8) -> Step
     }
 }
 
-// A byte goes to DCRAM, and the other RAMs stay.
+// A byte goes to DCRAM, and the other RAMs stay. One function for DCRAM and ADRAM would match the RAM for its address, for what follows and for its change, and be no plainer.
 fn to_show(mut c: Control, byte: u8) -> Step
     ensures { Steps (look dcram_at (shown byte)) c result }
 {
     let to = c.dcram_at;
     let dcram = match to {
-        Pointing::At(address) => {
+        Pointing::Known(address) => {
             let cell = address.0 % 16;
             c = shown_by(c, Address(cell), 1);
             Change::Put(Address(cell), byte)
@@ -57,7 +57,7 @@ fn to_mark(mut c: Control, byte: u8) -> Step
 {
     let to = c.adram_at;
     let adram = match to {
-        Pointing::At(address) => {
+        Pointing::Known(address) => {
             let cell = address.0 % 16;
             c = marked_by(c, Address(cell), 1);
             Change::Put(Address(cell), byte)

@@ -20,7 +20,7 @@ pub fn to_draw(c: Control, byte: u8) -> Step
 {
     let to = c.cgram_at;
     match to {
-        Pointing::At(address) => draw_in(c, byte, address),
+        Pointing::Known(address) => draw_in(c, byte, address),
         Pointing::Unknown => draw_anywhere(c, byte),
     }
 }
@@ -40,7 +40,7 @@ fn draw_in(mut c: Control, byte: u8, address: Address) -> Step
             } else {
                 address.0
             };
-            c = drawing(c, Pointing::At(Address(to)), Single::Known((at + 1) % 5));
+            c = drawing(c, Pointing::Known(Address(to)), Single::Known((at + 1) % 5));
             Change::Put(Address(character * 5 + at), byte)
         }
         Single::Unknown => {
@@ -79,7 +79,7 @@ fn draw_anywhere(mut c: Control, byte: u8) -> Step
 }
 
 // The same with another place in CGRAM.
-fn drawing(c: Control, cgram_at: Pointing, column: Single) -> Control
+fn drawing(c: Control, cgram_at: Pointing, column: Single<u8>) -> Control
     ensures { result ≡ placed c cgram_at column }
 {
     Control {

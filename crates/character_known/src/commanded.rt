@@ -3,13 +3,10 @@ ghost use Rattle.std.specs.Prelude.{◌≡◌};
 ghost use Rattle.rules.specs.Rule.{gives};
 ghost use Rattle.character.specs.Command.{command_of};
 ghost use Rattle.character.specs.Move.{commanded};
-ghost use Rattle.character.specs.Value.{lit};
 ghost use Rattle.character_steps.specs.Step.{Keeps, Forgets, Steps};
 
 use character::{Command, Lights, command_of};
-use character_knowledge::{
-    ADRAM, CGRAM, Control, DCRAM, IGNORING, NORMAL, OFF, ON, Pointing, at, no_control,
-};
+use character_knowledge::{ADRAM, CGRAM, Control, DCRAM, IGNORING, Pointing, at, no_control};
 use character_steps::{Step, forgotten, kept};
 use fact::Single;
 use lamps::{TWO, put_byte};
@@ -36,11 +33,12 @@ pub fn first_in(mut c: Control, byte: u8) -> Step
     kept(c)
 }
 
+// Each command sets other facts, so that one function for all would only be the match of `first_in` again.
 pub fn show_from(c: Control, address: Address) -> Control
     ensures { Keeps (gives (commanded (Command.Dcram address))) c result }
 {
     Control {
-        dcram_at: Pointing::At(address),
+        dcram_at: Pointing::Known(address),
         position: Single::Known(DCRAM),
         ..c
     }
@@ -50,7 +48,7 @@ pub fn draw_from(c: Control, address: Address) -> Control
     ensures { Keeps (gives (commanded (Command.Cgram address))) c result }
 {
     Control {
-        cgram_at: Pointing::At(address),
+        cgram_at: Pointing::Known(address),
         column: Single::Known(0),
         position: Single::Known(CGRAM),
         ..c
@@ -61,7 +59,7 @@ pub fn mark_from(c: Control, address: Address) -> Control
     ensures { Keeps (gives (commanded (Command.Adram address))) c result }
 {
     Control {
-        adram_at: Pointing::At(address),
+        adram_at: Pointing::Known(address),
         position: Single::Known(ADRAM),
         ..c
     }
@@ -102,7 +100,7 @@ pub fn digits_set(c: Control, digits: u8) -> Control
 pub fn lights_set(c: Control, lights: Lights) -> Control
     ensures { Keeps (gives (commanded (Command.Light lights))) c result }
 {
-    let number = lights_number(lights);
+    let number = u8::from(lights);
     Control {
         lights: Single::Known(number),
         position: Single::Known(IGNORING),
@@ -122,14 +120,4 @@ pub fn undefined_in() -> Control
     ensures { (c : Control) → Forgets (gives (commanded Command.Undefined)) c result }
 {
     at(no_control(), IGNORING)
-}
-
-pub fn lights_number(lights: Lights) -> u8
-    ensures { result ≡ lit lights }
-{
-    match lights {
-        Lights::Normal => NORMAL,
-        Lights::Off => OFF,
-        Lights::On => ON,
-    }
 }

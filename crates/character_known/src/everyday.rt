@@ -56,12 +56,13 @@ pub fn goes_to(c: Control) -> Target
     }
 }
 
+// Each RAM has a function of its own: one for all would match the RAM for its address, its cells and its target, and be no plainer.
 fn shows(c: Control) -> Target
     requires { stands c.position ≡ known (at_position Dcram) }
     ensures { Hits c result }
 {
     let to = c.dcram_at;
-    if let Pointing::At(cell) = to {
+    if let Pointing::Known(cell) = to {
         if cell.0 < 16 {
             return Target::Shown(cell);
         }
@@ -75,7 +76,7 @@ fn draws(c: Control) -> Target
 {
     let to = c.cgram_at;
     let column = c.column;
-    if let Pointing::At(character) = to {
+    if let Pointing::Known(character) = to {
         if let Single::Known(number) = column {
             if character.0 < 8 {
                 if number < 5 {
@@ -92,7 +93,7 @@ fn marks(c: Control) -> Target
     ensures { Hits c result }
 {
     let to = c.adram_at;
-    if let Pointing::At(cell) = to {
+    if let Pointing::Known(cell) = to {
         if cell.0 < 16 {
             return Target::Marked(cell);
         }

@@ -9,6 +9,7 @@ mod commanded;
 mod everyday;
 mod lost;
 mod moves;
+mod rows;
 mod stored;
 
 pub use anywhere::weakened;
@@ -20,4 +21,5 @@ pub use commanded::{
 pub use everyday::{Target, falls, goes_to, rises};
 pub use lost::nothing_known;
 pub use moves::{moved, taken};
+pub use rows::Rows;
 pub use stored::{drawn_by, marked_by, shown_by};

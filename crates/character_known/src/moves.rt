@@ -1,12 +1,13 @@
 // What each event makes of a knowledge.
-ghost use Rattle.std.specs.Prelude.{◌≡◌, length};
 ghost use Rattle.rules.specs.Rule.{gives};
 ghost use Rattle.character.specs.Move.{powered, move};
 ghost use Rattle.character_knowledge.specs.View.{Knows};
 ghost use Rattle.character_steps.specs.Step.{Steps};
+ghost use Rattle.character_known.specs.Together.{together, Sized};
 
 use crate::bytes::byte_in;
 use crate::everyday::{falls, rises};
+use crate::rows::Rows;
 use applying::apply;
 use character_knowledge::{Control, IDLE, Knowledge, OFF, Pointing};
 use character_steps::{Step, forgotten, kept, lost};
@@ -44,9 +45,9 @@ fn at_power(c: Control) -> Step
     let old = c.port;
     let port = put_byte(TWO, old, 0);
     forgotten(Control {
-        dcram_at: Pointing::At(Address(0)),
-        cgram_at: Pointing::At(Address(0)),
-        adram_at: Pointing::At(Address(0)),
+        dcram_at: Pointing::Known(Address(0)),
+        cgram_at: Pointing::Known(Address(0)),
+        adram_at: Pointing::Known(Address(0)),
         column: Single::Known(0),
         port,
         duty: Single::Known(0),
@@ -57,23 +58,14 @@ fn at_power(c: Control) -> Step
 }
 
 // An event taken through a knowledge, whose rows are changed where they stand.
-pub fn taken(
-    c: Control,
-    dcram: &mut [u16],
-    cgram: &mut [u16],
-    adram: &mut [u16],
-    event: Event,
-) -> Control
-    requires { (length dcram.old ≡ 16) × ((length cgram.old ≡ 40) × (length adram.old ≡ 16)) }
-    ensures { Knows (move event) (record { dcram = dcram.old; cgram = cgram.old; adram = adram.old; control = c }) (record { dcram = dcram.new; cgram = cgram.new; adram = adram.new; control = result }) }
+pub fn taken(c: Control, rows: &mut Rows, event: Event) -> Control
+    ensures knows { Knows (move event) (together rows.old c) (together rows.new result) }
+    ensures sized { Sized rows.new }
 {
     let next = step(c, event);
-    let to_dcram = next.dcram;
-    apply(dcram, EIGHT, to_dcram);
-    let to_cgram = next.cgram;
-    apply(cgram, SEVEN, to_cgram);
-    let to_adram = next.adram;
-    apply(adram, TWO, to_adram);
+    apply(&mut rows.dcram, EIGHT, next.dcram);
+    apply(&mut rows.cgram, SEVEN, next.cgram);
+    apply(&mut rows.adram, TWO, next.adram);
     next.control
 }
 
@@ -81,15 +73,17 @@ pub fn taken(
 pub fn moved(k: Knowledge, event: Event) -> Knowledge
     ensures { Knows (move event) k result }
 {
-    let mut dcram = k.dcram;
-    let mut cgram = k.cgram;
-    let mut adram = k.adram;
-    let was = k.control;
-    let control = taken(was, &mut dcram, &mut cgram, &mut adram, event);
-    Knowledge {
+    let Knowledge {
         dcram,
         cgram,
         adram,
         control,
-    }
+    } = k;
+    let mut rows = Rows {
+        dcram,
+        cgram,
+        adram,
+    };
+    let control = taken(control, &mut rows, event);
+    rows.with(control)
 }

@@ -7,13 +7,14 @@ use character_knowledge::{Control, Pointing};
 use fact::Single;
 use terms::Address;
 
+// Each RAM has a function of its own, since the walk knows which it is: one for all would match it once more, and be no plainer.
 // In DCRAM.
 pub fn shown_by(c: Control, first: Address, count: usize) -> Control
     requires { first.0 + count ≤ 16 }
     ensures { result ≡ aimed text c (first.0 + count) }
 {
     Control {
-        dcram_at: Pointing::At(Address((first.0 + count as u8) % 16)),
+        dcram_at: Pointing::Known(Address((first.0 + count as u8) % 16)),
         ..c
     }
 }
@@ -26,7 +27,7 @@ pub fn drawn_by(c: Control, first: Address, count: usize) -> Control
     let next = first.0 + count as u8;
     let at = if next < 40 { next } else { 0 };
     Control {
-        cgram_at: Pointing::At(Address(at / 5)),
+        cgram_at: Pointing::Known(Address(at / 5)),
         column: Single::Known(at % 5),
         ..c
     }
@@ -38,7 +39,7 @@ pub fn marked_by(c: Control, first: Address, count: usize) -> Control
     ensures { result ≡ aimed pairs c (first.0 + count) }
 {
     Control {
-        adram_at: Pointing::At(Address((first.0 + count as u8) % 16)),
+        adram_at: Pointing::Known(Address((first.0 + count as u8) % 16)),
         ..c
     }
 }

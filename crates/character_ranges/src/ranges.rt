@@ -5,7 +5,7 @@ ghost use Rattle.rules.specs.Tests.{Tests};
 ghost use Rattle.character_knowledge.specs.View.{blank, cview, kview, points};
 ghost use Rattle.character_ranges.specs.Ranges.{SinglesSound};
 
-use character_knowledge::{Control, Knowledge, Pointing};
+use character_knowledge::{Control, Knowledge};
 use fact::within;
 use lamp_tests::{all_sound, lamps_sound};
 use lamps::{EIGHT, SEVEN, TWO};
@@ -29,8 +29,8 @@ fn singles_sound(c: Control) -> bool
     let cgram_at = c.cgram_at;
     let adram_at = c.adram_at;
     let column = c.column;
-    let texts = pointing_sound(dcram_at, 16) & pointing_sound(adram_at, 16);
-    let glyphs = pointing_sound(cgram_at, 8) & within(column, 5);
+    let texts = within(dcram_at, 16) & within(adram_at, 16);
+    let glyphs = within(cgram_at, 8) & within(column, 5);
     let port = c.port;
     let duty = c.duty;
     let digits = c.digits;
@@ -38,13 +38,4 @@ fn singles_sound(c: Control) -> bool
     let position = c.position;
     let shown = lamps_sound(TWO, port) & within(duty, 8) & within(digits, 8) & within(lights, 3);
     texts & glyphs & shown & within(position, 6)
-}
-
-fn pointing_sound(to: Pointing, cells: u8) -> bool
-    ensures { Tests result (Within cells (points to)) }
-{
-    match to {
-        Pointing::At(cell) => cell.0 < cells,
-        Pointing::Unknown => true,
-    }
 }

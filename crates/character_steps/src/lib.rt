@@ -1,7 +1,5 @@
-// A step: what an event makes of a knowledge of PT6302, told in two, the facts beside the memory and what happens to the memory; and what two addresses have in common.
+// A step: what an event makes of a knowledge of PT6302, told in two, the facts beside the memory and what happens to the memory.
 #![tactic(auto)]
-
-mod join;
 
 ghost use Rattle.std.specs.Prelude.{◌≡◌};
 ghost use Rattle.rules.specs.Rule.{gives, free};
@@ -9,9 +7,8 @@ ghost use Rattle.character_steps.specs.Step.{kept_of, forgotten_of, Steps};
 
 use changes::Change;
 use character_knowledge::{Control, no_control};
-pub use join::both_pointing;
 
-// The facts beside the memory, and what happens to the memory.
+// The facts beside the memory, and what happens to the memory: three rows here and one in `segment_steps`, so that the two steps share no more than a name.
 #[derive(Clone, Copy)]
 pub struct Step {
     pub control: Control,

@@ -1,5 +1,5 @@
 -- Where the loop for PT6302 has come to, and how one record, or the two of a strobe, take it further.
-use Rattle.std.specs.Prelude.{ℕ, ◌+◌, ◌*◌, ◌<◌, ◌≤◌, ◌≡◌, refl, List, length, drop, get_or}
+use Rattle.std.specs.Prelude.{ℕ, ◌+◌, ◌*◌, ◌<◌, ◌≤◌, ◌≡◌, refl, List, length, drop, get_or, Ok}
 use Rattle.std.proofs.Common.{arith, subst, length-drop}
 use Rattle.rules.specs.Rule.{Rule}
 use Rattle.knowing.specs.Standing.{Standing, unknown}
@@ -9,8 +9,7 @@ use Rattle.terms.specs.declared.Event.TheVariants.{Falls, ByteIn}
 use Rattle.terms.specs.declared.Part.{Part}
 use Rattle.one_record.specs.declared.glance.Everyday.{Everyday}
 use Rattle.one_record.specs.Glance.{Shows}
-use Rattle.recording.specs.declared.Read.TheVariants.{Is}
-use Rattle.recording.specs.Record.{front}
+use Rattle.recording.specs.Record.{front, record_of}
 use Rattle.recording.specs.Steps.{rest}
 use Rattle.recording.specs.Tests.{record_fits}
 use Rattle.recording.specs.Walk.{Walk}
@@ -19,6 +18,8 @@ use Rattle.character.specs.Move.{move}
 use Rattle.character_knowledge.specs.declared.Control.{Control}
 use Rattle.character_knowledge.specs.declared.Knowledge.{Knowledge}
 use Rattle.character_knowledge.specs.View.{kview, Knows}
+use Rattle.character_known.specs.declared.rows.Rows.{Rows}
+use Rattle.character_known.specs.Together.{together}
 use Rattle.character_steps.specs.Step.{Forgets, forgotten_of}
 use Rattle.character_steps.specs.Steps.{forgotten_steps, applied}
 use Rattle.walks.specs.Kept.{Kept, kept_read}
@@ -55,7 +56,7 @@ pub glanced : (l : List ℕ) (i : ℕ) {x y : Everyday} → x ≡ y → Shows l 
 glanced l i e h = subst (λ (x : Everyday). Shows l i x) e h
 
 -- A record that is there ends within the bytes.
-pub record_within : (p : Part) (l : List ℕ) (i : ℕ) (e : Event) (n : ℕ) → i < length l → front p (drop i l) ≡ Is e n → (0 < n) × (i + n ≤ length l)
+pub record_within : (p : Part) (l : List ℕ) (i : ℕ) (e : Event) (n : ℕ) → i < length l → front p (drop i l) ≡ Ok (record_of e n) → (0 < n) × (i + n ≤ length l)
 record_within p l i e n inside read =
     let f = record_fits p (drop i l) e n read in
     let s = length-drop i l in
@@ -63,11 +64,11 @@ record_within p l i e n inside read =
 
 module _ {p : Part} {l : List ℕ} {w : Walk} {first : Fact → Standing} {i : ℕ} where
   -- Said of the rows and the control in other words.
-  pub reached : {d g a x y z : List ℕ} {c r : Control} → x ≡ d → y ≡ g → z ≡ a → r ≡ c → Reached p l w first i (knowledge d g a c) → Reached p l w first i (knowledge x y z r)
-  reached q s t u h = rw (q, s, t, u) h
+  pub reached : {s t : Rows} {c r : Control} → t ≡ s → r ≡ c → Reached p l w first i (together s c) → Reached p l w first i (together t r)
+  reached e u h = rw (e, u) h
 
   module _ {k : Knowledge} (here : Reached p l w first i k) (inside : i < length l) where
-    pub one_on : (r : Knowledge) (e : Event) (n : ℕ) → front p (drop i l) ≡ Is e n → Knows (move e) k r → Sized r → Reached p l w first (i + n) r
+    pub one_on : (r : Knowledge) (e : Event) (n : ℕ) → front p (drop i l) ≡ Ok (record_of e n) → Knows (move e) k r → Sized r → Reached p l w first (i + n) r
     one_on r e n read h size = record {
       within = (record_within p l i e n inside read).1;
       kept = kept_read same? range move p l i w first (kview k) (kview r) e n inside read h here.kept;
@@ -75,7 +76,7 @@ module _ {p : Part} {l : List ℕ} {w : Walk} {first : Fact → Standing} {i : �
     }
 
     -- A fall, and the byte behind it.
-    pub strobe_on : (begun r : Knowledge) (b : ℕ) → front p (drop i l) ≡ Is Falls 1 → front p (drop (i + 1) l) ≡ Is (ByteIn b) 2 → i + 2 < length l
+    pub strobe_on : (begun r : Knowledge) (b : ℕ) → front p (drop i l) ≡ Ok (record_of Falls 1) → front p (drop (i + 1) l) ≡ Ok (record_of (ByteIn b) 2) → i + 2 < length l
         → Knows (move Falls) k begun → Knows (move (ByteIn b)) begun r → Sized r → Reached p l w first (i + 3) r
     strobe_on begun r b falls byte there h q size =
         let e : i + 1 + 2 ≡ i + 3 = omega arith in

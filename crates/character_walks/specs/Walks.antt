@@ -6,9 +6,9 @@ use Rattle.character.specs.Fact.{same?, range}
 use Rattle.character.specs.Move.{move}
 use Rattle.character_knowledge.specs.declared.Knowledge.{Knowledge}
 use Rattle.character_knowledge.specs.View.{kview}
-use Rattle.character_walks.specs.declared.CharacterWalked.{CharacterWalked}
+use Rattle.walks.specs.declared.Walked.{Walked}
 use Rattle.walks.specs.Turn.{InTurn}
 
-pub record Walks (part : Part) (k : Knowledge) (l : List ℕ) (r : CharacterWalked) : Type 0 where
+pub record Walks (part : Part) (k : Knowledge) (l : List ℕ) (r : Walked Knowledge) : Type 0 where
   pub ended : r.ending ≡ end_of (walked part l)
   pub known : InTurn kview same? range move (events (walked part l)) k r.k

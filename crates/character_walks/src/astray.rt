@@ -1,14 +1,15 @@
 // Bytes of which it is not known where in a RAM they went, or whether they went anywhere.
-ghost use Rattle.std.specs.Prelude.{◌≡◌, ◌+◌, ◌<◌, length, get_or};
-ghost use Rattle.character_walks.specs.Reached.{knowledge, Sized, Leads};
+ghost use Rattle.std.specs.Prelude.{◌<◌};
+ghost use Rattle.character_known.specs.Together.{together};
+ghost use Rattle.character_walks.specs.Reached.{Leads};
 
 use crate::drift::gather_run;
-use byte_runs::passed;
-use changes::meet_run;
+use byte_runs::ByteRun;
+use changes::meet;
 use character_knowledge::Control;
-use character_known::{nothing_known, strays, taken};
+use character_known::{Rows, nothing_known, strays, taken};
 use lamps::{EIGHT, SEVEN, TWO, cut};
-use terms::{Event, Place};
+use terms::Event;
 
 // What is known beside the memory behind the bytes that were taken, and how many they are.
 #[derive(Clone, Copy)]
@@ -19,33 +20,37 @@ pub struct Strayed {
 
 // Takes a run of bytes: where nothing is known it is passed over, and else the cells that its bytes may have gone to meet what these have in common once. Where a run cannot be taken so, it
 // takes one byte.
-pub fn stray_run(
-    c: Control,
-    dcram: &mut [u16],
-    cgram: &mut [u16],
-    adram: &mut [u16],
-    bytes: &[u8],
-    at: Place,
-) -> Strayed
-    requires { (Sized (knowledge dcram.old cgram.old adram.old c)) × ((at.0 + 1 < length bytes.now) × (get_or bytes.now at.0 0 ≡ 3)) }
-    ensures { (0 < result.count) × Leads bytes.now at.0 result.count (knowledge dcram.old cgram.old adram.old c) (knowledge dcram.new cgram.new adram.new result.control) }
+pub fn stray_run(c: Control, rows: &mut Rows, run: ByteRun) -> Strayed
+    ensures some { 0 < result.count }
+    ensures leads { Leads run.entry.bytes.now run.entry.at.0 result.count (together rows.old c) (together rows.new result.control) }
 {
     let place = strays(c);
-    if nothing_known(c, place, dcram, cgram, adram) {
-        let count = passed(bytes, at);
-        return Strayed { control: c, count };
+    if nothing_known(c, place, rows) {
+        return Strayed {
+            control: c,
+            count: run.passed(),
+        };
     }
-    let run = gather_run(c, place, bytes, at);
-    let count = run.count;
+    let gathered = gather_run(c, place, run);
+    let count = gathered.count;
     if count == 0 {
-        let event = Event::ByteIn(bytes[at.0 + 1]);
-        let control = taken(c, dcram, cgram, adram, event);
+        let event = Event::ByteIn(run.bytes[run.at.0 + 1]);
+        let control = taken(c, rows, event);
         return Strayed { control, count: 1 };
     }
-    let code = run.code;
-    meet_run(dcram, EIGHT, 0, run.dcram, code);
-    meet_run(cgram, SEVEN, 0, run.cgram, cut(SEVEN, code));
-    meet_run(adram, TWO, 0, run.adram, cut(TWO, code));
-    let control = run.control;
-    Strayed { control, count }
+    let code = gathered.code;
+    meet(&mut rows.dcram, EIGHT, 0, 1, gathered.dcram, code);
+    meet(
+        &mut rows.cgram,
+        SEVEN,
+        0,
+        1,
+        gathered.cgram,
+        cut(SEVEN, code),
+    );
+    meet(&mut rows.adram, TWO, 0, 1, gathered.adram, cut(TWO, code));
+    Strayed {
+        control: gathered.control,
+        count,
+    }
 }

@@ -1,14 +1,13 @@
 // What a run of bytes of unknown place leaves known beside the memory, and what they have in common.
-ghost use Rattle.std.specs.Prelude.{◌≡◌, ◌+◌, ◌<◌, length, get_or};
+ghost use Rattle.std.specs.Prelude.{◌≡◌};
 ghost use Rattle.character_known.specs.Ram.{Adrift, Gone};
 ghost use Rattle.character_walks.specs.Drifts.{Gathers};
 
-use byte_runs::shared;
+use byte_runs::ByteRun;
 use character::{Command, command_of};
 use character_knowledge::Control;
 use character_known::{Astray, weakened};
 use lamps::{EIGHT, both_lamps, code_of};
-use terms::Place;
 
 // The number of bytes and a code of what they have in common; and how many cells of each RAM meet that, from the first on.
 #[derive(Clone, Copy)]
@@ -22,9 +21,9 @@ pub struct Gathered {
 }
 
 // There are none where more is known of their place than a run leaves.
-pub fn gather_run(c: Control, place: Astray, bytes: &[u8], at: Place) -> Gathered
-    requires { (Gone c place) × ((at.0 + 1 < length bytes.now) × (get_or bytes.now at.0 0 ≡ 3)) }
-    ensures { Gathers bytes.now at.0 c result }
+pub fn gather_run(c: Control, place: Astray, bytes: ByteRun) -> Gathered
+    requires { Gone c place }
+    ensures { Gathers bytes.entry.bytes.now bytes.entry.at.0 c result }
 {
     let mut run = Gathered {
         control: c,
@@ -39,13 +38,13 @@ pub fn gather_run(c: Control, place: Astray, bytes: &[u8], at: Place) -> Gathere
         Astray::Drawn => run.cgram = 40,
         Astray::Marked => run.adram = 16,
         Astray::Anywhere => {
-            return drift(c, bytes, at);
+            return drift(c, bytes);
         }
         Astray::Not => {
             return run;
         }
     }
-    let common = shared(EIGHT, bytes, at);
+    let common = bytes.shared(EIGHT);
     run.count = common.count;
     run.code = common.code;
     run
@@ -53,30 +52,39 @@ pub fn gather_run(c: Control, place: Astray, bytes: &[u8], at: Place) -> Gathere
 
 // Each may be a command, or go to any cell of any RAM, or do nothing. The run ends before an undefined command, which leaves nothing known; and
 // a command below 40H sets an address, which is unknown already.
-fn drift(c: Control, bytes: &[u8], at: Place) -> Gathered
-    requires { (Adrift c) × (at.0 + 1 < length bytes.now) }
-    ensures { Gathers bytes.now at.0 c result }
+fn drift(c: Control, run: ByteRun) -> Gathered
+    requires { Adrift c }
+    ensures { Gathers run.entry.bytes.now run.entry.at.0 c result }
 {
-    let from = at.0;
+    let bytes = run.bytes;
+    let from = run.at.0;
     let most = (bytes.len() - from) / 2;
     let mut control = c;
     let mut code = code_of(EIGHT, bytes[from + 1]);
-    let mut j = 0;
-    while j < most && bytes[from + 2 * j] == 3 {
+    for j in 0..most {
+        if bytes[from + 2 * j] != 3 {
+            return adrift(control, j, code);
+        }
         let byte = bytes[from + 2 * j + 1];
         let command = command_of(byte);
         if let Command::Undefined = command {
-            break;
+            return adrift(control, j, code);
         }
         if byte >= 64 {
             control = weakened(control, command);
         }
         code = both_lamps(code, code_of(EIGHT, byte));
-        j += 1;
     }
+    adrift(control, most, code)
+}
+
+// Every cell meets what the bytes have in common.
+fn adrift(control: Control, count: usize, code: u16) -> Gathered
+    ensures { result ≡ record { control = control; count = count; code = code; dcram = 16; cgram = 40; adram = 16 } }
+{
     Gathered {
         control,
-        count: j,
+        count,
         code,
         dcram: 16,
         cgram: 40,

@@ -1,14 +1,16 @@
 // All rows.
-ghost use Rattle.std.specs.Prelude.{ℕ, ◌≡◌};
+ghost use Rattle.character_known.specs.Together.{Sized};
 ghost use Rattle.character_walks.specs.Reached.{Blank};
 
 use changes::forget;
+use character_known::Rows;
 
 // Nothing is known of the memory any more.
-pub fn forget_all(dcram: &mut [u16], cgram: &mut [u16], adram: &mut [u16])
-    ensures { Blank dcram.new cgram.new adram.new }
+pub fn forget_all(rows: &mut Rows)
+    ensures blank { Blank rows.new.dcram rows.new.cgram rows.new.adram }
+    ensures sized { Sized rows.new }
 {
-    forget(dcram);
-    forget(cgram);
-    forget(adram);
+    forget(&mut rows.dcram);
+    forget(&mut rows.cgram);
+    forget(&mut rows.adram);
 }

@@ -1,14 +1,13 @@
 -- The facts of a PT6302 panel in the checksum, in paper 01's order.
 use Rattle.std.specs.Prelude.{ℕ}
-use Rattle.fact.specs.declared.Pointing.{Pointing}
-use Rattle.fact.specs.declared.Pointing.TheVariants.{At, Unknown}
+use Rattle.terms.specs.declared.Address.{Address}
+use Rattle.fact.specs.declared.Single.{Single}
 use Rattle.character_knowledge.specs.declared.Control.{Control}
 use Rattle.character_knowledge.specs.declared.Knowledge.{Knowledge}
-use Rattle.checksum.specs.Sum.{taken, all_taken, fact_code}
+use Rattle.checksum.specs.Sum.{taken, all_taken, code_of, fact_code}
 
-abbrev pub address_code : Pointing → ℕ
-address_code (At cell) = cell.0
-address_code Unknown = 256
+abbrev pub address_code : Single Address → ℕ
+address_code = code_of (λ cell. cell.0)
 
 abbrev pub memory_sum : ℕ → Knowledge → ℕ
 memory_sum sum k = all_taken (all_taken (all_taken sum k.dcram) k.cgram) k.adram

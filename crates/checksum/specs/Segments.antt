@@ -4,16 +4,17 @@ use Rattle.segment.specs.declared.Family.{Family}
 use Rattle.segment.specs.declared.Family.TheVariants.{Pt6312, Pt6315}
 use Rattle.segment.specs.Family.{sizes}
 use Rattle.fact.specs.declared.Single.{Single}
-use Rattle.segment_knowledge.specs.declared.Pointing.{Pointing}
-use Rattle.segment_knowledge.specs.declared.Pointing.TheVariants.{At, Invalid, Unknown}
+use Rattle.fact.specs.declared.Single.TheVariants.{Known, Unknown}
+use Rattle.segment.specs.declared.Pointer.{Pointer}
+use Rattle.segment.specs.declared.Pointer.TheVariants.{At, Invalid}
 use Rattle.segment_knowledge.specs.declared.Control.{Control}
 use Rattle.segment_knowledge.specs.declared.Knowledge.{Knowledge}
 use Rattle.checksum.specs.Sum.{taken, all_taken, fact_code}
 
 -- An invalid address counts as 255.
-abbrev pub address_code : Pointing → ℕ
-address_code (At cell) = cell.0
-address_code Invalid = 255
+abbrev pub address_code : Single Pointer → ℕ
+address_code (Known (At cell)) = cell.0
+address_code (Known Invalid) = 255
 address_code Unknown = 256
 
 -- The cells, and the key bytes, that the part has.
@@ -23,7 +24,7 @@ cell_sum sum family cells = all_taken sum (take (sizes family).cells cells)
 abbrev pub key_sum : ℕ → Family → List ℕ → ℕ
 key_sum sum family keys = all_taken sum (take (sizes family).keys keys)
 
-abbrev pub switch_sum : ℕ → Family → Single → ℕ
+abbrev pub switch_sum : ℕ → Family → Single ℕ → ℕ
 switch_sum sum Pt6312 switches = taken sum (fact_code switches)
 switch_sum sum Pt6315 switches = sum
 

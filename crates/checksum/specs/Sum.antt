@@ -11,8 +11,11 @@ abbrev pub all_taken : ℕ → List ℕ → ℕ
 all_taken sum [] = sum
 all_taken sum (n ∷ rest) = all_taken (taken sum n) rest
 
--- What is known of one fact that is known as a whole: its value, or 256. Of memory, LED and port the codes of `lamps` are
+-- What is known of one fact that is known as a whole: the number of its value, or 256. Of memory, LED and port the codes of `lamps` are
 -- taken, which have every known bit.
-abbrev pub fact_code : Single → ℕ
-fact_code (Known value) = value
-fact_code Unknown = 256
+abbrev pub code_of : {T : Type 0} → (T → ℕ) → Single T → ℕ
+code_of number (Known value) = number value
+code_of number Unknown = 256
+
+abbrev pub fact_code : Single ℕ → ℕ
+fact_code = code_of (λ n. n)

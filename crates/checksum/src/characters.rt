@@ -1,10 +1,9 @@
 // The facts of a PT6302 panel in the checksum.
 ghost use Rattle.std.specs.Prelude.{◌≡◌};
-ghost use Rattle.checksum.specs.Sum.{taken, all_taken};
-ghost use Rattle.checksum.specs.Characters.{address_code, character_sum};
+ghost use Rattle.checksum.specs.Characters.{character_sum};
 
 use crate::sum::Sum;
-use character_knowledge::{Knowledge, Pointing};
+use character_knowledge::Knowledge;
 
 pub fn all(sum: Sum, k: Knowledge) -> Sum
     ensures { result.0 ≡ character_sum sum.0 k }
@@ -12,12 +11,12 @@ pub fn all(sum: Sum, k: Knowledge) -> Sum
     let dcram = k.dcram;
     let cgram = k.cgram;
     let adram = k.adram;
-    let stored = sixteen(forty(sixteen(sum, dcram), cgram), adram);
+    let stored = sum.codes(&dcram).codes(&cgram).codes(&adram);
     let c = k.control;
     let dcram_at = c.dcram_at;
     let cgram_at = c.cgram_at;
     let adram_at = c.adram_at;
-    let addressed = address(address(address(stored, dcram_at), cgram_at), adram_at);
+    let addressed = stored.fact(dcram_at).fact(cgram_at).fact(adram_at);
     let column = c.column;
     let port = c.port;
     let duty = c.duty;
@@ -31,31 +30,4 @@ pub fn all(sum: Sum, k: Knowledge) -> Sum
         .fact(digits)
         .fact(lights)
         .fact(position)
-}
-
-fn sixteen(sum: Sum, row: [u16; 16]) -> Sum
-    ensures { result.0 ≡ all_taken sum.0 row }
-{
-    sum.codes(&row)
-}
-
-fn forty(sum: Sum, row: [u16; 40]) -> Sum
-    ensures { result.0 ≡ all_taken sum.0 row }
-{
-    sum.codes(&row)
-}
-
-fn address(sum: Sum, fact: Pointing) -> Sum
-    ensures { result.0 ≡ taken sum.0 (address_code fact) }
-{
-    sum.take(code(fact))
-}
-
-fn code(fact: Pointing) -> u16
-    ensures { result ≡ address_code fact }
-{
-    match fact {
-        Pointing::At(cell) => cell.0 as u16,
-        Pointing::Unknown => 256,
-    }
 }

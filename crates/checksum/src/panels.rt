@@ -14,7 +14,7 @@ pub fn answer_in(sum: Sum, answer: Answer) -> Sum
     ensures { result.0 ≡ answer_sum sum.0 answer }
 {
     let told = told_of(answer);
-    sum.take(told.0 as u16).place(told.1)
+    sum.take(told.number as u16).place(told.place)
 }
 
 // The facts of the part, in paper 01's order.

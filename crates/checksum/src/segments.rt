@@ -1,11 +1,11 @@
 // The facts of a PT6312 or PT6315 panel in the checksum.
-ghost use Rattle.std.specs.Prelude.{◌≡◌, take};
-ghost use Rattle.checksum.specs.Sum.{taken, all_taken};
+ghost use Rattle.std.specs.Prelude.{◌≡◌};
+ghost use Rattle.checksum.specs.Sum.{taken};
 ghost use Rattle.checksum.specs.Segments.{address_code, switch_sum, segment_sum};
 
 use crate::sum::Sum;
 use fact::Single;
-use segment::Family;
+use segment::{Family, Pointer};
 use segment_knowledge::{Knowledge, Pointing};
 
 pub fn all(sum: Sum, family: Family, k: Knowledge) -> Sum
@@ -13,7 +13,7 @@ pub fn all(sum: Sum, family: Family, k: Knowledge) -> Sum
 {
     let sizes = family.sizes();
     let memory = k.cells;
-    let stored = cells(sum, sizes.cells, memory);
+    let stored = sum.first(sizes.cells, &memory);
     let c = k.control;
     let to = c.address;
     let addressed = address(stored, to);
@@ -31,18 +31,12 @@ pub fn all(sum: Sum, family: Family, k: Knowledge) -> Sum
         .fact(display)
         .take(led);
     let pressed = c.keys;
-    let latched = keys(set, sizes.keys, pressed);
+    let latched = set.first(sizes.keys, &pressed);
     let switches = c.switches;
     let switched = switches_in(latched, family, switches);
     let count = c.count;
     let position = c.position;
     switched.fact(count).fact(position)
-}
-
-fn cells(sum: Sum, n: u8, row: [u16; 36]) -> Sum
-    ensures { result.0 ≡ all_taken sum.0 (take n row) }
-{
-    sum.first(n, &row)
 }
 
 fn address(sum: Sum, fact: Pointing) -> Sum
@@ -56,19 +50,13 @@ fn code(fact: Pointing) -> u16
     ensures { result ≡ address_code fact }
 {
     match fact {
-        Pointing::At(cell) => cell.0 as u16,
-        Pointing::Invalid => 255,
+        Pointing::Known(Pointer::At(cell)) => cell.0 as u16,
+        Pointing::Known(Pointer::Invalid) => 255,
         Pointing::Unknown => 256,
     }
 }
 
-fn keys(sum: Sum, n: u8, row: [u16; 4]) -> Sum
-    ensures { result.0 ≡ all_taken sum.0 (take n row) }
-{
-    sum.first(n, &row)
-}
-
-fn switches_in(sum: Sum, family: Family, fact: Single) -> Sum
+fn switches_in(sum: Sum, family: Family, fact: Single<u8>) -> Sum
     ensures { result.0 ≡ switch_sum sum.0 family fact }
 {
     match family {

@@ -1,9 +1,9 @@
 // A checksum: for each number it is 31 times what it was plus the number, modulo the largest prime below 2^32.
 ghost use Rattle.std.specs.Prelude.{◌≡◌, ◌%◌, take};
-ghost use Rattle.checksum.specs.Sum.{taken, all_taken, fact_code};
+ghost use Rattle.checksum.specs.Sum.{taken, all_taken, code_of};
 
 use fact::Single;
-use terms::Place;
+use terms::{Place, Value};
 
 #[derive(Clone, Copy)]
 pub struct Sum(pub u32);
@@ -22,9 +22,9 @@ impl Sum {
         self.take((place.0 % 65536) as u16)
     }
 
-    // What is known of one fact: its value, or 256.
-    pub fn fact(self, fact: Single) -> Sum
-        ensures { result.0 ≡ taken self.0 (fact_code fact) }
+    // What is known of one fact: the number of its value, or 256.
+    pub fn fact<T: Value>(self, fact: Single<T>) -> Sum
+        ensures { result.0 ≡ taken self.0 (code_of T.number fact) }
     {
         self.take(code(fact))
     }
@@ -43,20 +43,18 @@ impl Sum {
         ensures { result.0 ≡ all_taken self.0 codes.now }
     {
         let mut sum = self;
-        let mut i = 0;
-        while i < codes.len() {
-            sum = sum.take(codes[i]);
-            i += 1;
+        for code in codes {
+            sum = sum.take(*code);
         }
         sum
     }
 }
 
-fn code(fact: Single) -> u16
-    ensures { result ≡ fact_code fact }
+fn code<T: Value>(fact: Single<T>) -> u16
+    ensures { result ≡ code_of T.number fact }
 {
     match fact {
-        Single::Known(value) => value as u16,
+        Single::Known(value) => value.as_number(),
         Single::Unknown => 256,
     }
 }

@@ -1,9 +1,8 @@
 // PT6302.
 use crate::print;
 use character::{Anything, Character, Lights, Moved, Position};
-use example_text::{Line, show_facts, text};
 use std::io;
-use terms::Address;
+use terms::{Address, Event};
 
 // A chip in the middle of something, with a value that shows in every fact: all RAMs hold 6E, but ADRAM 2.
 pub fn used() -> Moved {
@@ -31,78 +30,58 @@ pub fn used() -> Moved {
     }
 }
 
-// After a byte that may have ended a record of this part.
-pub fn after(line: Line, moved: Moved) -> Moved {
-    if !line.whole {
-        return moved;
+// After an event, if one ended, of this part.
+pub fn after(part: Option<u8>, event: Option<Event>, moved: Moved) -> Moved {
+    match (part, event) {
+        (Some(0x02), Some(event)) => character_machine::moved(moved.chip, event),
+        _ => moved,
     }
-    if line.part == 0x02 {
-        return character_machine::moved(moved.chip, line.event());
-    }
-    moved
 }
 
 pub fn show(rt: &impl Print, moved: Moved) -> io::Result<()> {
     let chip = moved.chip;
-    show_facts(
-        rt,
-        b"    |DCRAM at ;, |CGRAM at ; |column ;, |ADRAM at ;, |port ;, |duty ;, |digits ;, |/normal/off/on;, |/idle/first byte/to DCRAM/to CGRAM/to ADRAM/ignoring",
-        codes_of(chip),
-        0,
-        9,
-        true,
+    print!(rt;
+        "    DCRAM at {}, CGRAM at {} column {}, ADRAM at {}, port {}, duty {}, digits {}, {}, {}",
+        chip.dcram_at.0,
+        chip.cgram_at.0,
+        chip.column,
+        chip.adram_at.0,
+        chip.port,
+        chip.duty,
+        chip.digits,
+        lights(chip.lights),
+        position(chip.position)
     )?;
-    rams(rt, chip)?;
+    print::changed(rt, "\n    D", &chip.dcram, 0x6E)?;
+    print::changed(rt, "; G", &chip.cgram, 0x6E)?;
+    print::changed(rt, "; A", &chip.adram, 2)?;
     let any = moved.any;
     print::flags(
         rt,
-        b" memory/ settings/ position",
-        &[any.memory, any.settings, any.position],
+        &[
+            ("memory", any.memory),
+            ("settings", any.settings),
+            ("position", any.position),
+        ],
     )?;
-    text(rt, b"\n")
+    println!(rt)
 }
 
-fn codes_of(chip: Character) -> [u16; 10] {
-    let lit = chip.lights;
-    let at = chip.position;
-    [
-        chip.dcram_at.0 as u16,
-        chip.cgram_at.0 as u16,
-        chip.column as u16,
-        chip.adram_at.0 as u16,
-        chip.port as u16,
-        chip.duty as u16,
-        chip.digits as u16,
-        lights(lit),
-        position(at),
-        256,
-    ]
-}
-
-fn lights(lights: Lights) -> u16 {
+fn lights(lights: Lights) -> &'static str {
     match lights {
-        Lights::Normal => 0,
-        Lights::Off => 1,
-        Lights::On => 2,
+        Lights::Normal => "normal",
+        Lights::Off => "off",
+        Lights::On => "on",
     }
 }
 
-fn position(position: Position) -> u16 {
+fn position(position: Position) -> &'static str {
     match position {
-        Position::Idle => 0,
-        Position::First => 1,
-        Position::Dcram => 2,
-        Position::Cgram => 3,
-        Position::Adram => 4,
-        Position::Ignoring => 5,
+        Position::Idle => "idle",
+        Position::First => "first byte",
+        Position::Dcram => "to DCRAM",
+        Position::Cgram => "to CGRAM",
+        Position::Adram => "to ADRAM",
+        Position::Ignoring => "ignoring",
     }
-}
-
-fn rams(rt: &impl Print, chip: Character) -> io::Result<()> {
-    let dcram = chip.dcram;
-    print::changed(rt, b"\n    D", &dcram, 0x6E)?;
-    let cgram = chip.cgram;
-    print::changed(rt, b"; G", &cgram, 0x6E)?;
-    let adram = chip.adram;
-    print::changed(rt, b"; A", &adram, 2)
 }

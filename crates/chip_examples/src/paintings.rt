@@ -1,12 +1,12 @@
 // Pictures, painted. Of each the answer is written, and the whole output, which held EE before.
 use character::Lights;
-use example_text::{bytes, number, text};
-use painting::{CharacterPicture, Painted, Picture, SegmentPicture};
+use example_text::Hex;
+use painting::{CharacterPicture, NotPainted, Painted, Picture, SegmentPicture};
 use segment::Display;
 use std::io;
 
 pub fn run(rt: &impl Print) -> io::Result<()> {
-    segment(rt, b"P14, PT6312 all 00\n", 0x12, 68, 7, 0, 15)?;
+    segment(rt, "P14, PT6312 all 00", 0x12, blank(), 68)?;
     pt6315(rt)?;
     pt6302(rt)?;
     rooms(rt)?;
@@ -19,18 +19,14 @@ fn pt6315(rt: &impl Print) -> io::Result<()> {
     let mut cells = [0x10u8; 36];
     cells[0] = 0xA5;
     cells[35] = 0x5A;
-    let segment = SegmentPicture {
+    let picture = SegmentPicture {
         cells,
         mode: 8,
         dimming: 7,
         display: Display::On,
         led: 10,
     };
-    let picture = Picture {
-        segment,
-        character: spaces(),
-    };
-    show(rt, b"PT6315\n", 0x15, picture, 95)
+    segment(rt, "PT6315", 0x15, picture, 95)
 }
 
 // The first and the last cell of each RAM marked.
@@ -44,7 +40,7 @@ fn pt6302(rt: &impl Print) -> io::Result<()> {
     let mut adram = [0u8; 16];
     adram[0] = 3;
     adram[15] = 1;
-    let character = CharacterPicture {
+    let picture = CharacterPicture {
         dcram,
         cgram,
         adram,
@@ -53,88 +49,53 @@ fn pt6302(rt: &impl Print) -> io::Result<()> {
         digits: 1,
         lights: Lights::On,
     };
-    let picture = Picture {
-        segment: blank(),
-        character,
-    };
-    show(rt, b"PT6302\n", 0x02, picture, 174)
+    character(rt, "PT6302", picture, 174)
 }
 
 fn rooms(rt: &impl Print) -> io::Result<()> {
-    segment(rt, b"part 14\n", 0x14, 3, 7, 0, 15)?;
-    segment(rt, b"room 65 on PT6312\n", 0x12, 65, 7, 0, 15)?;
-    character(rt, b"room 171 on PT6302\n", 171, 0, 0, 0, 0, 0)
+    segment(rt, "part 14", 0x14, blank(), 3)?;
+    segment(rt, "room 65 on PT6312", 0x12, blank(), 65)?;
+    character(rt, "room 171 on PT6302", spaces(), 171)
 }
 
 fn segments(rt: &impl Print) -> io::Result<()> {
-    segment(rt, b"mode 8 on PT6312\n", 0x12, 3, 8, 0, 15)?;
-    segment(rt, b"LED 16\n", 0x15, 3, 7, 0, 16)?;
-    segment(rt, b"dimming 8\n", 0x15, 3, 7, 8, 15)?;
-    segment(rt, b"mode 9 on PT6315\n", 0x15, 3, 9, 0, 15)?;
-    segment(rt, b"room 93 on PT6315\n", 0x15, 93, 8, 0, 15)?;
-    segment(rt, b"mode 9 on no part\n", 0x13, 3, 9, 0, 15)
+    let with_mode = |mode| SegmentPicture { mode, ..blank() };
+    let lit = SegmentPicture { led: 16, ..blank() };
+    let dimmed = SegmentPicture {
+        dimming: 8,
+        ..blank()
+    };
+    segment(rt, "mode 8 on PT6312", 0x12, with_mode(8), 3)?;
+    segment(rt, "LED 16", 0x15, lit, 3)?;
+    segment(rt, "dimming 8", 0x15, dimmed, 3)?;
+    segment(rt, "mode 9 on PT6315", 0x15, with_mode(9), 3)?;
+    segment(rt, "room 93 on PT6315", 0x15, with_mode(8), 93)?;
+    segment(rt, "mode 9 on no part", 0x13, with_mode(9), 3)
 }
 
+// Only the last mark or column of a row is beyond what it may be.
 fn characters(rt: &impl Print) -> io::Result<()> {
-    character(rt, b"port 4\n", 3, 4, 0, 0, 0, 0)?;
-    character(rt, b"duty 8\n", 3, 0, 8, 0, 0, 0)?;
-    character(rt, b"digits 8\n", 3, 0, 0, 8, 0, 0)?;
-    character(rt, b"a pair of 4\n", 3, 0, 0, 0, 4, 0)?;
-    character(rt, b"a column of 80\n", 3, 0, 0, 0, 0, 0x80)
-}
-
-// All cells 00, and the display off.
-fn segment(
-    rt: &impl Print,
-    name: &[u8],
-    part: u8,
-    room: u8,
-    mode: u8,
-    dimming: u8,
-    led: u8,
-) -> io::Result<()> {
-    let picture = Picture {
-        segment: SegmentPicture {
-            cells: [0; 36],
-            mode,
-            dimming,
-            display: Display::Off,
-            led,
-        },
-        character: spaces(),
+    let port = CharacterPicture {
+        port: 4,
+        ..spaces()
     };
-    show(rt, name, part, picture, room)
-}
-
-// All spaces, lights normal, and no mark and no column but the last of each.
-fn character(
-    rt: &impl Print,
-    name: &[u8],
-    room: u8,
-    port: u8,
-    duty: u8,
-    digits: u8,
-    pair: u8,
-    column: u8,
-) -> io::Result<()> {
-    let mut adram = [0u8; 16];
-    adram[15] = pair;
-    let mut cgram = [0u8; 40];
-    cgram[39] = column;
-    let character = CharacterPicture {
-        dcram: [0x20; 16],
-        cgram,
-        adram,
-        port,
-        duty,
-        digits,
-        lights: Lights::Normal,
+    let duty = CharacterPicture {
+        duty: 8,
+        ..spaces()
     };
-    let picture = Picture {
-        segment: blank(),
-        character,
+    let digits = CharacterPicture {
+        digits: 8,
+        ..spaces()
     };
-    show(rt, name, 0x02, picture, room)
+    let mut pair = spaces();
+    pair.adram[15] = 4;
+    let mut column = spaces();
+    column.cgram[39] = 0x80;
+    character(rt, "port 4", port, 3)?;
+    character(rt, "duty 8", duty, 3)?;
+    character(rt, "digits 8", digits, 3)?;
+    character(rt, "a pair of 4", pair, 3)?;
+    character(rt, "a column of 80", column, 3)
 }
 
 // All 00, mode 7, LED 15, dimming 0, off.
@@ -161,31 +122,43 @@ fn spaces() -> CharacterPicture {
     }
 }
 
-fn show(rt: &impl Print, name: &[u8], part: u8, picture: Picture, room: u8) -> io::Result<()> {
-    text(rt, name)?;
+fn segment(
+    rt: &impl Print,
+    name: &str,
+    part: u8,
+    segment: SegmentPicture,
+    room: u8,
+) -> io::Result<()> {
+    let character = spaces();
+    show(rt, name, part, Picture { segment, character }, room)
+}
+
+fn character(rt: &impl Print, name: &str, character: CharacterPicture, room: u8) -> io::Result<()> {
+    let segment = blank();
+    show(rt, name, 0x02, Picture { segment, character }, room)
+}
+
+fn show(rt: &impl Print, name: &str, part: u8, picture: Picture, room: u8) -> io::Result<()> {
+    println!(rt; "{name}")?;
     let mut buffer = [0xEEu8; 256];
-    let n = room as usize;
-    painted(rt, part, picture, &mut buffer[..n])
+    painted(rt, part, picture, &mut buffer[..room as usize])
 }
 
 fn painted(rt: &impl Print, part: u8, picture: Picture, out: &mut [u8]) -> io::Result<()> {
     answered(rt, painter::paint(part, picture, out))?;
-    bytes(rt, &out[..], out.len())?;
-    text(rt, b"\n")
+    println!(rt; "{}", Hex(out))
 }
 
 // Paper 01's number and place.
 fn answered(rt: &impl Print, painted: Painted) -> io::Result<()> {
     match painted {
-        Painted::Done(place) => at(rt, 0, place.0),
-        Painted::NoPart(place) => at(rt, 1, place.0),
-        Painted::OutOfRange(place) => at(rt, 9, place.0),
-        Painted::TooSmall(place) => at(rt, 10, place.0),
+        Ok(place) => at(rt, 0, place.0),
+        Err(NotPainted::NoPart(place)) => at(rt, 1, place.0),
+        Err(NotPainted::OutOfRange(place)) => at(rt, 9, place.0),
+        Err(NotPainted::TooSmall(place)) => at(rt, 10, place.0),
     }
 }
 
 fn at(rt: &impl Print, answer: usize, place: usize) -> io::Result<()> {
-    number(rt, b"  ", answer)?;
-    number(rt, b" at ", place)?;
-    text(rt, b":")
+    print!(rt; "  {answer} at {place}:")
 }

@@ -1,9 +1,8 @@
 // PT6312 and PT6315.
 use crate::print;
-use example_text::{Line, number, show_facts, text};
 use segment::{Anything, Data, Display, Family, Moved, Pointer, Position, Segment, Sent, Stepping};
 use std::io;
-use terms::Address;
+use terms::{Address, Event};
 
 // A chip in the middle of something, with a value that shows in every fact: all cells hold EE.
 pub fn used() -> Moved {
@@ -33,103 +32,86 @@ pub fn used() -> Moved {
     }
 }
 
-// After a byte that may have ended a record of one of these parts.
-pub fn after(line: Line, moved: Moved) -> Moved {
-    if !line.whole {
-        return moved;
-    }
-    let part = line.part;
-    match part {
-        0x12 => segment_machine::moved(Family::Pt6312, moved.chip, line.event()),
-        0x15 => segment_machine::moved(Family::Pt6315, moved.chip, line.event()),
+// After an event, if one ended, of one of these parts.
+pub fn after(part: Option<u8>, event: Option<Event>, moved: Moved) -> Moved {
+    match (part, event) {
+        (Some(0x12), Some(event)) => segment_machine::moved(Family::Pt6312, moved.chip, event),
+        (Some(0x15), Some(event)) => segment_machine::moved(Family::Pt6315, moved.chip, event),
         _ => moved,
     }
 }
 
 pub fn show(rt: &impl Print, family: Family, moved: Moved) -> io::Result<()> {
     let chip = moved.chip;
-    show_facts(
-        rt,
-        b"    |address ;, |/write display/write LED/read keys/read switches;, |/increment/fixed;, |mode ;, |dimming ;, |/off/on;, |LED ;, |count ;, |/idle/first byte/open/ignoring",
-        codes_of(chip),
-        0,
-        9,
-        true,
+    address(rt, chip.address)?;
+    print!(rt;
+        ", {}, {}, mode {}, dimming {}, {}, LED {}, count {}, {}",
+        data(chip.data),
+        stepping(chip.stepping),
+        chip.mode,
+        chip.dimming,
+        display(chip.display),
+        chip.led,
+        chip.count,
+        position(chip.position)
     )?;
-    let cells = chip.cells;
-    print::changed(rt, b"\n    cells", &cells, 0xEE)?;
+    print::changed(rt, "\n    cells", &chip.cells, 0xEE)?;
     let any = moved.any;
     print::flags(
         rt,
-        b" memory/ data mode/ settings/ keys and switches/ position",
-        &[any.memory, any.data, any.settings, any.inputs, any.position],
+        &[
+            ("memory", any.memory),
+            ("data mode", any.data),
+            ("settings", any.settings),
+            ("keys and switches", any.inputs),
+            ("position", any.position),
+        ],
     )?;
     next(rt, family, chip)
 }
 
-fn codes_of(chip: Segment) -> [u16; 10] {
-    let to = chip.address;
-    let mode = chip.data;
-    let step = chip.stepping;
-    let shown = chip.display;
-    let at = chip.position;
-    [
-        address(to),
-        data(mode),
-        stepping(step),
-        chip.mode as u16,
-        chip.dimming as u16,
-        display(shown),
-        chip.led as u16,
-        chip.count as u16,
-        position(at),
-        256,
-    ]
-}
-
-fn address(address: Pointer) -> u16 {
+fn address(rt: &impl Print, address: Pointer) -> io::Result<()> {
     match address {
-        Pointer::At(cell) => cell.0 as u16,
-        Pointer::Invalid => 257,
+        Pointer::At(cell) => print!(rt; "    address {}", cell.0),
+        Pointer::Invalid => print!(rt; "    address invalid"),
     }
 }
 
-fn data(data: Data) -> u16 {
+fn data(data: Data) -> &'static str {
     match data {
-        Data::WriteDisplay => 0,
-        Data::WriteLed => 1,
-        Data::ReadKeys => 2,
-        Data::ReadSwitches => 3,
+        Data::WriteDisplay => "write display",
+        Data::WriteLed => "write LED",
+        Data::ReadKeys => "read keys",
+        Data::ReadSwitches => "read switches",
     }
 }
 
-fn stepping(stepping: Stepping) -> u16 {
+fn stepping(stepping: Stepping) -> &'static str {
     match stepping {
-        Stepping::Increment => 0,
-        Stepping::Fixed => 1,
+        Stepping::Increment => "increment",
+        Stepping::Fixed => "fixed",
     }
 }
 
-fn display(display: Display) -> u16 {
+fn display(display: Display) -> &'static str {
     match display {
-        Display::Off => 0,
-        Display::On => 1,
+        Display::Off => "off",
+        Display::On => "on",
     }
 }
 
-fn position(position: Position) -> u16 {
+fn position(position: Position) -> &'static str {
     match position {
-        Position::Idle => 0,
-        Position::First => 1,
-        Position::Open => 2,
-        Position::Ignoring => 3,
+        Position::Idle => "idle",
+        Position::First => "first byte",
+        Position::Open => "open",
+        Position::Ignoring => "ignoring",
     }
 }
 
 fn next(rt: &impl Print, family: Family, chip: Segment) -> io::Result<()> {
     match segment_sends::sent_next(family, chip) {
-        Sent::Byte(byte) => number(rt, b"; sends ", byte as usize)?,
-        Sent::NotDriven => text(rt, b"; not driven")?,
+        Sent::Byte(byte) => println!(rt; "; sends {byte}"),
+        Sent::NotDriven => println!(rt; "; not driven"),
     }
-    text(rt, b"\n")
 }

@@ -1,32 +1,34 @@
 // Degrees for people, of a float that is some half degrees.
 #![tactic(auto)]
 
-ghost use Rattle.writing.specs.Writes.{Writes};
+ghost use Rattle.writing.specs.Wrote.{Wrote};
 ghost use Rattle.half_degrees.specs.Half.{Halved};
 ghost use Rattle.degrees.specs.Degrees.{sized, Degrees};
 
 use half_degrees::halves_of;
 use text::decimal;
-use writing::put;
+use writing::Writer;
 
 pub fn write_degrees(degrees: f32, out: &mut [u8]) -> usize
     requires { Halved degrees }
     ensures { Degrees degrees out.old result out.new }
 {
     let halves = halves_of(degrees);
-    let size = halves.1;
-    if halves.0 {
-        let begun = put(out, 0, b'-');
-        return write_size(out, begun, size);
+    let mut w = Writer { out, at: 0 };
+    if halves.negative {
+        w.put(b'-');
+        write_size(&mut w, halves.size);
+        return w.at;
     }
-    write_size(out, 0, size)
+    write_size(&mut w, halves.size);
+    w.at
 }
 
 // Whole degrees, a point, and 0 or 5.
-fn write_size(out: &mut [u8], at: usize, halves: u8) -> usize
-    ensures { Writes out.old at (sized halves) result out.new }
+fn write_size(w: &mut Writer, halves: u8)
+    ensures { Wrote w.old (sized halves) w.new }
 {
-    let whole = decimal(out, at, (halves / 2) as usize);
-    let pointed = put(out, whole, b'.');
-    put(out, pointed, 48 + 5 * (halves % 2))
+    decimal(w, (halves / 2) as usize);
+    w.put(b'.');
+    w.put(b'0' + 5 * (halves % 2));
 }

@@ -1,14 +1,12 @@
 -- The events of a recording carry bytes. The argument: an event carries what stands in its record, and a recording is
 -- bytes.
-use Rattle.std.specs.Prelude.{ℕ, zero, suc, ◌+◌, ◌<◌, List, [], ◌∷◌, length, get_or, drop, eqb, ltb}
+use Rattle.std.specs.Prelude.{ℕ, zero, suc, ◌+◌, ◌<◌, List, [], ◌∷◌, length, get_or, drop, eqb, ltb, Ok, Err}
 use Rattle.std.proofs.Math.Path.{subst⁻¹}
 use Rattle.std.proofs.Common.{get_or-drop}
 use Rattle.rules.specs.Choice.{whether_all}
 use Rattle.terms.specs.Event.{Bytes}
 use Rattle.terms.specs.declared.Part.{Part}
-use Rattle.recording.specs.declared.Read.{Read}
-use Rattle.recording.specs.declared.Read.TheVariants.{Is, Refused}
-use Rattle.recording.specs.Record.{listed, belongs, body_of, allowed, event_of, front}
+use Rattle.recording.specs.Record.{listed, belongs, body_of, allowed, event_of, front, Read}
 use Rattle.recording.specs.Walk.{step, walk, events}
 use Rattle.whole.specs.Usual.{Each}
 use Rattle.demand.specs.Recording.{AllBytes, events_from}
@@ -25,8 +23,8 @@ event_carries k b0 b1 b2 b3 h0 h1 h2 h3 =
     (λ _. whether_all Bytes (eqb k 8) _ _ (λ _. h0) (λ _. tt))))))))
 
 Carried : Read → Type 0
-Carried (Is e m) = Bytes e
-Carried (Refused r) = Unit
+Carried (Ok it) = Bytes it.event
+Carried (Err r) = Unit
 
 carried : (p : Part) (l : List ℕ) → AllBytes l → Carried (front p l)
 unfolding Carried
@@ -52,8 +50,8 @@ walk_carries (suc n) p at (b ∷ l) h = go (front p (b ∷ l)) (carried p (b ∷
   where
     go : (r : Read) → Carried r → ((m : ℕ) → Each Bytes (events (walk n p (at + m) (drop m (b ∷ l)))))
         → Each Bytes (events (step at b (λ m. walk n p (at + m) (drop m (b ∷ l))) r))
-    go (Is e m) c ih = (c, ih m)
-    go (Refused x) c ih = tt
+    go (Ok it) c ih = (c, ih it.length)
+    go (Err x) c ih = tt
 
 pub carry : (p : Part) (start : ℕ) (l : List ℕ) → AllBytes l → Each Bytes (events_from p start l)
 carry p start l h = walk_carries (length (drop start l)) p 0 (drop start l) (drop_bytes start l h)

@@ -1,7 +1,7 @@
 -- Demand 3 over a recording, as a caller has it: a part byte that names a part, and what `replay` promises of its
 -- answer. The argument: where the replay answers number 0 its promise is the events in turn (`replay/ByPart`), and
 -- `Turned` says what holds of those.
-use Rattle.std.specs.Prelude.{ℕ, ◌<◌, ◌≡◌, false, List, length}
+use Rattle.std.specs.Prelude.{ℕ, ◌<◌, ◌≡◌, false, List, length, Ok}
 use Rattle.rules.specs.Range.{Good}
 use Rattle.rules.specs.Turn.{Ends}
 use Rattle.rules.specs.Digit.{digit}
@@ -9,7 +9,6 @@ use Rattle.knowing.specs.Standing.{Standing, known, Fits, Sound}
 use Rattle.knowing.specs.Bytes.{Spells}
 use Rattle.terms.specs.Part.{part_of}
 use Rattle.terms.specs.declared.Part.{Part}
-use Rattle.terms.specs.declared.PartRead.TheVariants.{Is}
 use Rattle.parts.specs.Facts.{Fact, range}
 use Rattle.panel.specs.declared.Panel.{Panel}
 use Rattle.panel.specs.View.{known_of}
@@ -24,7 +23,7 @@ use Rattle.demand.proofs.Bytes.{carry}
 use Rattle.demand.specs.Turned.{turned_chain, turned_one_end, turned_fits, turned_in_range, turned_more, turned_cells_exact}
 use Rattle.demand.specs.Demand.{AllEndWithByte}
 
-module _ (b : ℕ) (p : Part) (named : part_of b ≡ Is p) (k : Panel) (l : List ℕ) (start : ℕ) (r : Replayed)
+module _ (b : ℕ) (p : Part) (named : part_of b ≡ Ok p) (k : Panel) (l : List ℕ) (start : ℕ) (r : Replayed)
     (met : Replays (part_of b) k l start r) (zero : number r.answer ≡ 0) (bytes : AllBytes l) where
   acceptable : Acceptable p k l start
   acceptable = (accepted p k l start r (replays_by k l start r (part_of b) p named met) zero).0

@@ -1,7 +1,7 @@
 -- M-100 in the paper's words: a recording that comes in packets, however it is cut, from any good state in which no refusal
 -- stands, where no packet is answered by 4. The argument: packets in turn are the one row that they make (`Packets.in_one`),
 -- and what is left of it decides how closing is answered.
-use Rattle.std.specs.Prelude.{ℕ, ◌+◌, ◌≡◌, refl, false, List, [], ◌∷◌, ◌++◌, map, length, drop}
+use Rattle.std.specs.Prelude.{ℕ, ◌+◌, ◌≡◌, refl, false, List, [], ◌∷◌, ◌++◌, map, length, drop, Ok, Option, None, Some, Err}
 use Rattle.std.proofs.Common.{arith, ap, ◌∙◌, subst, append_assoc, ⊎_elim, length-append, length-drop}
 use Rattle.std.proofs.Math.Path.{subst⁻¹}
 use Rattle.rules.specs.Where.{Where, where_good}
@@ -11,27 +11,20 @@ use Rattle.rules.specs.Turn.{Ends}
 use Rattle.knowing.specs.Standing.{Standing, known, Fits, Sound}
 use Rattle.terms.specs.declared.Place.{Place}
 use Rattle.terms.specs.declared.Part.{Part}
-use Rattle.terms.specs.declared.PartRead.{PartRead}
-use Rattle.terms.specs.declared.PartRead.TheVariants.{Is}
-use Rattle.terms.specs.Part.{part_of}
+use Rattle.terms.specs.Part.{PartRead, part_of}
 use Rattle.walks.specs.Turn.{InTurn}
 use Rattle.parts.specs.Facts.{Fact, same?, range, move}
 use Rattle.recording.specs.Record as Record
-use Rattle.recording.specs.Walk.{walked, events, end_of}
+use Rattle.recording.specs.Walk.{walked, events, end_of, Ending, stop_of}
 use Rattle.recording.specs.Points.{stops_within}
 use Rattle.recording.specs.Start.{none}
 use Rattle.recording.specs.Cut.{stands_at, Open, cut_told}
-use Rattle.recording.specs.declared.Ending.{Ending}
-use Rattle.recording.specs.declared.Ending.TheVariants.{Done, Stops}
 use Rattle.recording.specs.declared.Refusal.{Refusal}
 use Rattle.recording.specs.declared.Refusal.TheVariants.{Unlisted, Foreign, CutShort, Forbidden}
 use Rattle.panel.specs.declared.Panel.{Panel}
 use Rattle.panel.specs.View.{known_of}
-use Rattle.answers.specs.declared.Answer.{Answer}
-use Rattle.answers.specs.Answer.{number, place}
+use Rattle.answers.specs.Answer.{Answer, number, place}
 use Rattle.answers.specs.Told.{Answers}
-use Rattle.account.specs.declared.Kept.{Kept}
-use Rattle.account.specs.declared.Kept.TheVariants as Stands
 use Rattle.account.specs.Bytes.{bytes_of}
 use Rattle.account_tests.specs.Close.{ByLeft}
 use Rattle.account_tests.specs.Tests.{Fits as FitsIn, ByKept}
@@ -65,31 +58,31 @@ course_open p a row total ls rs before (halts _ _ l ms r qs shut all) o =
     absurd (shut (subst Open (cut_told p (row ++ l) (together ms) shut).1
     (subst⁻¹ (λ (x : List ℕ). Open (end_of (walked p x))) (append_assoc row l (together ms)) o)))
 
-closes_by : (q : PartRead) (p : Part) (s : Feed) (a : Answer) → q ≡ Is p → Closes q s a → ClosesPart p s a
+closes_by : (q : PartRead) (p : Part) (s : Feed) (a : Answer) → q ≡ Ok p → Closes q s a → ClosesPart p s a
 closes_by q p s a e h = subst (λ (x : PartRead). Closes x s a) e h
 
 -- What closing comes to, by what is unfinished.
-ends_left : (s : Feed) (a : Answer) (u : List ℕ) → bytes_of s.unfinished ≡ u → Close.Ends s a → ByLeft u (first_place s) s.total s.kept a
-ends_left s a u e h = subst (λ (x : List ℕ). ByLeft x (first_place s) s.total s.kept a) e h
+ends_left : (s : Feed) (a : Answer) (u : List ℕ) → bytes_of s.account.unfinished ≡ u → Close.Ends s a → ByLeft u (first_place s) s.account.total s.account.kept a
+ends_left s a u e h = subst (λ (x : List ℕ). ByLeft x (first_place s) s.account.total s.account.kept a) e h
 
-module _ (b : ℕ) (p : Part) (named : part_of b ≡ Is p) (s : Feed) (good : Good p s) (free : s.kept ≡ Stands.None) (ls : List (List ℕ))
-    (rs : List Taken) (run : Run (part_of b) s ls rs) (never : NoFour rs) (bytes : AllBytes (bytes_of s.unfinished ++ together ls)) where
+module _ (b : ℕ) (p : Part) (named : part_of b ≡ Ok p) (s : Feed) (good : Good p s) (free : s.account.kept ≡ None) (ls : List (List ℕ))
+    (rs : List Taken) (run : Run (part_of b) s ls rs) (never : NoFour rs) (bytes : AllBytes (bytes_of s.account.unfinished ++ together ls)) where
   -- What was unfinished, and all packets; what is kept of the panel in the end; and the total that counts all bytes.
   abbrev pub whole : List ℕ
-  whole = bytes_of s.unfinished ++ together ls
+  whole = bytes_of s.account.unfinished ++ together ls
 
   abbrev pub last : Taken
   last = ending (started s) rs
 
   abbrev pub all : ℕ
-  all = s.total + length (together ls)
+  all = s.account.total + length (together ls)
 
-  pub one : (before : ℕ) × Course p last.answer (bytes_of s.unfinished) s.total ls rs before × ReadsRow p s.panel (first_place s) before all whole last
+  pub one : (before : ℕ) × Course p last.answer (bytes_of s.account.unfinished) s.account.total ls rs before × ReadsRow p s.panel (first_place s) before all whole last
   one = in_one b p named ls (started s) rs (record { good = good; free = free; numbered = refl; placed = refl }) run never bytes
 
   counts : first_place s + length whole ≡ all
   counts =
-      let a = length-append (bytes_of s.unfinished) (together ls) in
+      let a = length-append (bytes_of s.account.unfinished) (together ls) in
       let c = good.counted in
       omega (arith, a, c)
 
@@ -101,19 +94,19 @@ module _ (b : ℕ) (p : Part) (named : part_of b ≡ Is p) (s : Feed) (good : Go
   by_end e q = subst (λ (x : Ending). ByEnd x (first_place s) one.0 all whole (ends last)) q one.2.ended
 
   -- A refusal by 5, 6 or 8: number, place, what is kept, and that it stands.
-  pub told_halts : (x : Refusal) (at : Place) → end_of (walked p whole) ≡ Stops x at → (Open (Stops x at) → ⊥)
+  pub told_halts : (x : Refusal) (at : Place) → end_of (walked p whole) ≡ Err (stop_of x at) → (Open (Err (stop_of x at)) → ⊥)
       → Halts (Record.number x) (first_place s + at.0) one.0 (ends last)
-  told_halts x at q shut = halting x shut (by_end (Stops x at) q)
+  told_halts x at q shut = halting x shut (by_end (Err (stop_of x at)) q)
     where
-      halting : (y : Refusal) → (Open (Stops y at) → ⊥) → ByEnd (Stops y at) (first_place s) one.0 all whole (ends last)
+      halting : (y : Refusal) → (Open (Err (stop_of y at)) → ⊥) → ByEnd (Err (stop_of y at)) (first_place s) one.0 all whole (ends last)
           → Halts (Record.number y) (first_place s + at.0) one.0 (ends last)
       halting Unlisted no_way h = h
       halting Foreign no_way h = h
       halting CutShort no_way h = absurd (no_way tt)
       halting Forbidden no_way h = h
 
-  all_go : (e : Ending) → end_of (walked p whole) ≡ e → Open e → AllGo s.total ls rs
-  all_go e q o = course_open p last.answer (bytes_of s.unfinished) s.total ls rs one.0 one.1 (subst⁻¹ Open q o)
+  all_go : (e : Ending) → end_of (walked p whole) ≡ e → Open e → AllGo s.account.total ls rs
+  all_go e q o = course_open p last.answer (bytes_of s.account.unfinished) s.account.total ls rs one.0 one.1 (subst⁻¹ Open q o)
 
   good_last : (e : Ending) → end_of (walked p whole) ≡ e → Open e → Good p last.feed
   good_last e q o = good_again p s.panel (first_place s) one.0 all whole last good.in_range bytes counts one.2 (subst⁻¹ Open q o)
@@ -139,8 +132,8 @@ module _ (b : ℕ) (p : Part) (named : part_of b ≡ Is p) (s : Feed) (good : Go
 
   -- A start that knows more, and contradicts nothing, ends knowing at least as much, with the same values, however its packets are
   -- cut.
-  pub packets_know_more : (t : Feed) (fine : Good p t) (none-stands : t.kept ≡ Stands.None) (ms : List (List ℕ)) (qs : List Taken)
-      → Run (part_of b) t ms qs → NoFour qs → bytes_of t.unfinished ++ together ms ≡ whole
+  pub packets_know_more : (t : Feed) (fine : Good p t) (none-stands : t.account.kept ≡ None) (ms : List (List ℕ)) (qs : List Taken)
+      → Run (part_of b) t ms qs → NoFour qs → bytes_of t.account.unfinished ++ together ms ≡ whole
       → KnowsAtLeast (known_of p s.panel) (known_of p t.panel)
       → KnowsAtLeast (known_of p last.feed.panel) (known_of p (ending (started t) qs).feed.panel)
   packets_know_more t fine none-stands ms qs again no_four same more =
@@ -165,21 +158,21 @@ module _ (b : ℕ) (p : Part) (named : part_of b ≡ Is p) (s : Feed) (good : Go
 
     -- If the whole is accepted: every packet is answered 0 at its total, the end knows what the whole's events in turn make of
     -- the start, nothing is unfinished, and closing is 0 at the total.
-    pub packets_accepted : end_of (walked p whole) ≡ Done
-        → AllGo s.total ls rs × KnownAfter p whole s.panel last.feed.panel × Goes all [] (ends last) × Answers a 0 all
+    pub packets_accepted : end_of (walked p whole) ≡ Ok tt
+        → AllGo s.account.total ls rs × KnownAfter p whole s.panel last.feed.panel × Goes all [] (ends last) × Answers a 0 all
     packets_accepted q =
-        let g = by_end Done q in
-        let k = subst (λ (x : Kept). ByKept x (Answers a) (Answers a 0 last.feed.total)) g.stands (ends_left last.feed a [] g.unfinished (closed (good_last Done q tt))) in
-        (all_go Done q tt, known_after, g, record { numbered = k.numbered; placed = k.placed ∙ g.counted })
+        let g = by_end (Ok tt) q in
+        let k = subst (λ (x : Option Answer). ByKept x (Answers a) (Answers a 0 last.feed.account.total)) g.stands (ends_left last.feed a [] g.unfinished (closed (good_last (Ok tt) q tt))) in
+        (all_go (Ok tt) q tt, known_after, g, record { numbered = k.numbered; placed = k.placed ∙ g.counted })
 
     -- If it is cut short: every packet is answered 0 at its total, and closing is 7 at the record's first byte.
-    pub packets_cut_short : (at : Place) → end_of (walked p whole) ≡ Stops CutShort at
-        → AllGo s.total ls rs × KnownAfter p whole s.panel last.feed.panel × Goes all (drop at.0 whole) (ends last)
+    pub packets_cut_short : (at : Place) → end_of (walked p whole) ≡ Err (stop_of CutShort at)
+        → AllGo s.account.total ls rs × KnownAfter p whole s.panel last.feed.panel × Goes all (drop at.0 whole) (ends last)
         × Answers a 7 (first_place s + at.0)
-    packets_cut_short at q = (all_go (Stops CutShort at) q tt, known_after, g, close (drop at.0 whole) some_left g)
+    packets_cut_short at q = (all_go (Err (stop_of CutShort at)) q tt, known_after, g, close (drop at.0 whole) some_left g)
       where
         g : Goes all (drop at.0 whole) (ends last)
-        g = by_end (Stops CutShort at) q
+        g = by_end (Err (stop_of CutShort at)) q
 
         o : Open (end_of (walked p whole))
         o = subst⁻¹ Open q tt
@@ -198,46 +191,46 @@ module _ (b : ℕ) (p : Part) (named : part_of b ≡ Is p) (s : Feed) (good : Go
         close : (u : List ℕ) → (length u ≡ 0 → ⊥) → Goes all u (ends last) → Answers a 7 (first_place s + at.0)
         close [] more h = absurd (more refl)
         close (x ∷ u) more h =
-            let k = ends_left last.feed a (x ∷ u) h.unfinished (closed (good_last (Stops CutShort at) q tt)) in
+            let k = ends_left last.feed a (x ∷ u) h.unfinished (closed (good_last (Err (stop_of CutShort at)) q tt)) in
             let there = k.placed in
             record { numbered = k.numbered; placed = omega (arith, there, first) }
 
     -- If it is refused by 5, 6 or 8: the packets are answered 0 until the one that lets it be told, and from then on by the
     -- same number and place; what is known is what the last good record left, nothing is unfinished, the total is that before
     -- that packet, and closing is answered the same.
-    pub packets_refused : (x : Refusal) (at : Place) → end_of (walked p whole) ≡ Stops x at → (Open (Stops x at) → ⊥)
-        → (before : ℕ) × Course p last.answer (bytes_of s.unfinished) s.total ls rs before × KnownAfter p whole s.panel last.feed.panel
+    pub packets_refused : (x : Refusal) (at : Place) → end_of (walked p whole) ≡ Err (stop_of x at) → (Open (Err (stop_of x at)) → ⊥)
+        → (before : ℕ) × Course p last.answer (bytes_of s.account.unfinished) s.account.total ls rs before × KnownAfter p whole s.panel last.feed.panel
         × Halts (Record.number x) (first_place s + at.0) before (ends last) × Answers a (Record.number x) (first_place s + at.0)
     packets_refused x at q shut = (one.0, one.1, known_after, h, close)
       where
         h : Halts (Record.number x) (first_place s + at.0) one.0 (ends last)
         h = told_halts x at q shut
 
-        stood : Good p last.feed × (last.feed.kept ≡ Stands.Refused last.answer)
+        stood : Good p last.feed × (last.feed.account.kept ≡ Some last.answer)
         stood = good_halted p s.panel (first_place s) one.0 all whole last good.in_range bytes counts one.2 (λ o. shut (subst Open q o))
 
         close : Answers a (Record.number x) (first_place s + at.0)
         close =
-            let k = subst (λ (y : Kept). ByKept y (Answers a) (Answers a 0 last.feed.total)) stood.1 (ends_left last.feed a [] h.unfinished (closed stood.0)) in
+            let k = subst (λ (y : Option Answer). ByKept y (Answers a) (Answers a 0 last.feed.account.total)) stood.1 (ends_left last.feed a [] h.unfinished (closed stood.0)) in
             record { numbered = k.numbered ∙ h.numbered; placed = k.placed ∙ h.placed }
 
 -- The state before the first packet is good, whatever is known within the ranges.
 pub opened_good : (p : Part) (k : Panel) → Sound (range p) (known_of p k) → Good p (opening k)
 opened_good p k sound = record { in_range = sound; cut_off = none; counted = omega arith; told = tt }
 
-module _ (b : ℕ) (p : Part) (named : part_of b ≡ Is p) where
+module _ (b : ℕ) (p : Part) (named : part_of b ≡ Ok p) where
   -- From a good state in which a refusal stands: every packet is answered by it, and changes nothing.
-  pub packets_standing : (s : Feed) (a : Answer) → Good p s → s.kept ≡ Stands.Refused a → (ls : List (List ℕ)) (rs : List Taken)
+  pub packets_standing : (s : Feed) (a : Answer) → Good p s → s.account.kept ≡ Some a → (ls : List (List ℕ)) (rs : List Taken)
       → Run (part_of b) s ls rs → AllAnswered a rs × (ending (record { answer = a; feed = s }) rs ≡ record { answer = a; feed = s })
   packets_standing s a good kept ls rs run = standing_run b p named ls (record { answer = a; feed = s }) rs good kept run
 
   -- A packet leaves a good state good, whatever its answer.
-  pub packet_good : (s : Feed) (l : List ℕ) (r : Taken) → Good p s → AllBytes (bytes_of s.unfinished ++ l) → Takes (part_of b) s l r → Good p r.feed
-  packet_good s l r good bytes met = by s.kept (where_good good (takes_by (part_of b) p s l r named met))
+  pub packet_good : (s : Feed) (l : List ℕ) (r : Taken) → Good p s → AllBytes (bytes_of s.account.unfinished ++ l) → Takes (part_of b) s l r → Good p r.feed
+  packet_good s l r good bytes met = by s.account.kept (where_good good (takes_by (part_of b) p s l r named met))
     where
-      counts : first_place s + length (bytes_of s.unfinished ++ l) ≡ s.total + length l
+      counts : first_place s + length (bytes_of s.account.unfinished ++ l) ≡ s.account.total + length l
       counts =
-          let a = length-append (bytes_of s.unfinished) l in
+          let a = length-append (bytes_of s.account.unfinished) l in
           let c = good.counted in
           omega (arith, a, c)
 
@@ -246,11 +239,11 @@ module _ (b : ℕ) (p : Part) (named : part_of b ≡ Is p) where
 
       read : Reads p s l r → Good p r.feed
       read h =
-          ⊎_elim (λ o. good_again p s.panel (first_place s) s.total (s.total + length l) (bytes_of s.unfinished ++ l) r good.in_range bytes counts h o)
-          (λ shut. (good_halted p s.panel (first_place s) s.total (s.total + length l) (bytes_of s.unfinished ++ l) r good.in_range bytes counts h shut).0)
-          (open? (end_of (walked p (bytes_of s.unfinished ++ l))))
+          ⊎_elim (λ o. good_again p s.panel (first_place s) s.account.total (s.account.total + length l) (bytes_of s.account.unfinished ++ l) r good.in_range bytes counts h o)
+          (λ shut. (good_halted p s.panel (first_place s) s.account.total (s.account.total + length l) (bytes_of s.account.unfinished ++ l) r good.in_range bytes counts h shut).0)
+          (open? (end_of (walked p (bytes_of s.account.unfinished ++ l))))
 
-      by : (k : Kept) → ByKept k (λ n at. RefusedBy n at s r) (Where (FitsIn s.total (length l)) (Reads p s l r) (RefusedBy 4 0 s r)) → Good p r.feed
-      by Stands.None (good_fit fits h) = read h
-      by Stands.None (bad_fit no_way h) = unchanged 4 0 h
-      by (Stands.Refused a) h = unchanged (number a) (place a) h
+      by : (k : Option Answer) → ByKept k (λ n at. RefusedBy n at s r) (Where (FitsIn s.account.total (length l)) (Reads p s l r) (RefusedBy 4 0 s r)) → Good p r.feed
+      by None (good_fit fits h) = read h
+      by None (bad_fit no_way h) = unchanged 4 0 h
+      by (Some a) h = unchanged (number a) (place a) h

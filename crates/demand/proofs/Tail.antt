@@ -1,7 +1,7 @@
 -- What the tail finder is for: behind its last gap a recording tells all that it tells. The argument: a gap leaves
 -- nothing known, whatever was known before it, and so what the whole recording makes of any start is what the records
 -- behind its last gap make of knowing nothing.
-use Rattle.std.specs.Prelude.{ℕ, ◌+◌, ◌≡◌, refl, true, false, List, ◌∷◌, ◌++◌, map, length, drop}
+use Rattle.std.specs.Prelude.{ℕ, ◌+◌, ◌≡◌, refl, true, false, List, ◌∷◌, ◌++◌, map, length, drop, Ok}
 use Rattle.std.proofs.Common.{arith, sym, ap, ◌∙◌, subst, length-drop, le-ltb}
 use Rattle.std.proofs.Math.Path.{subst⁻¹}
 use Rattle.std.proofs.lemmas.List.{map-append}
@@ -14,12 +14,9 @@ use Rattle.knowing.specs.Turn.{in_turn, in_turn_same, in_turn_append}
 use Rattle.terms.specs.declared.Event.{Event}
 use Rattle.terms.specs.declared.Event.TheVariants.{Gap}
 use Rattle.terms.specs.Event.{Bytes}
-use Rattle.terms.specs.Part.{part_of}
+use Rattle.terms.specs.Part.{PartRead, part_of}
 use Rattle.terms.specs.declared.Part.{Part}
 use Rattle.terms.specs.declared.Part.TheVariants.{Pt6302, Pt6312, Pt6315}
-use Rattle.terms.specs.declared.PartRead.{PartRead}
-use Rattle.terms.specs.declared.PartRead.TheVariants.{Is}
-use Rattle.recording.specs.declared.Ending.TheVariants.{Done}
 use Rattle.recording.specs.Walk.{walked, events, behind_gap}
 use Rattle.parts.specs.Facts.{Fact, same?, range, move}
 use Rattle.parts.specs.Laws.{two, ranged}
@@ -57,7 +54,7 @@ from_nothing p before after k n nothing f =
     ∙ in_turn_append (same? p) (range p) (map (move p) before) (map (move p) (Gap ∷ after)) k f
     ∙ in_turn_same (same? p) (range p) (map (move p) after) _ n (λ g. gap_forgets p _ g ∙ sym (nothing g)) f
 
-module _ (b : ℕ) (p : Part) (named : part_of b ≡ Is p) (k : Panel) (l : List ℕ) (r : Replayed)
+module _ (b : ℕ) (p : Part) (named : part_of b ≡ Ok p) (k : Panel) (l : List ℕ) (r : Replayed)
     (met : Replays (part_of b) k l 0 r) (zero : number r.answer ≡ 0) where
   acceptable : Acceptable p k l 0
   acceptable = (accepted p k l 0 r (replays_by k l 0 r (part_of b) p named met) zero).0
@@ -66,7 +63,7 @@ module _ (b : ℕ) (p : Part) (named : part_of b ≡ Is p) (k : Panel) (l : List
   done = (accepted p k l 0 r (replays_by k l 0 r (part_of b) p named met) zero).1
 
   -- What `find_tail` finds in it: the part from behind the last gap to the end.
-  found_behind : found (part_of b) l ≡ found_by p l Done
+  found_behind : found (part_of b) l ≡ found_by p l (Ok tt)
   found_behind =
       ap (λ (q : PartRead). found q l) named
       ∙ rw (le-ltb 65535 (length l) acceptable.short) (ap (found_by p l) acceptable.ends)

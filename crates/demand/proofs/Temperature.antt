@@ -1,6 +1,6 @@
 -- What a reading tells of the chips that a recording leads to. The argument: every chip that the records, or those behind
 -- the last gap, may lead to fits what is known at the end, and a chip that fits shows what is read.
-use Rattle.std.specs.Prelude.{ℕ, ◌≡◌, refl, true, List, [], ◌∷◌, ℤ, negsuc}
+use Rattle.std.specs.Prelude.{ℕ, ◌≡◌, refl, true, List, [], ◌∷◌, ℤ, negsuc, Ok}
 use Rattle.std.proofs.Math.Decide.{ℕ_discrete}
 use Rattle.std.proofs.Math.Path.{subst⁻¹}
 use Rattle.rules.specs.Digit.{digit}
@@ -9,8 +9,6 @@ use Rattle.knowing.specs.Standing.{Standing, Agrees}
 use Rattle.knowing.specs.Turn.{in_turn}
 use Rattle.terms.specs.Part.{part_of}
 use Rattle.terms.specs.declared.Part.TheVariants.{Pt6302}
-use Rattle.terms.specs.declared.PartRead.TheVariants.{Is}
-use Rattle.recording.specs.declared.Ending.TheVariants.{Done}
 use Rattle.recording.specs.Walk.{walked, end_of}
 use Rattle.character.specs.Fact.{Fact, same?, range}
 use Rattle.panel.specs.declared.Panel.{Panel}
@@ -33,7 +31,7 @@ use Rattle.demand.specs.Temperature.{LedTo}
 fewer : (start : ℕ) (h : ℤ) {many few : (Fact → ℕ) → Type 0} → ((c : Fact → ℕ) → few c → many c) → ShownBy start h many → ShownBy start h few
 fewer start h into s = record { field = s.field; spells = s.spells; shown = λ c f. s.shown c (into c f); same = λ c f. s.same c (into c f) }
 
-module _ (b : ℕ) (named : part_of b ≡ Is Pt6302) (l : List ℕ) (r : Replayed) (zero : number r.answer ≡ 0) (bytes : AllBytes l)
+module _ (b : ℕ) (named : part_of b ≡ Ok Pt6302) (l : List ℕ) (r : Replayed) (zero : number r.answer ≡ 0) (bytes : AllBytes l)
     (start : ℕ) (a : Answer) (told : Tells (part_of b) r.panel start a) (h : ℤ) (reads : Reads a h) where
   -- After an accepted recording with a gap a reading is given only if every chip, whatever its state at the last gap,
   -- moved by the records behind it, ends showing that very field.
@@ -58,7 +56,7 @@ shown_behind =
     0x05 ∷ 0x02 ∷ 0x03 ∷ 0x60 ∷ 0x04 ∷ 0x02 ∷ 0x03 ∷ 0x70 ∷ 0x04
     ∷ 0x02 ∷ 0x03 ∷ 0x10 ∷ 0x03 ∷ 0x2D ∷ 0x03 ∷ 0x20 ∷ 0x03 ∷ 0x37 ∷ 0x03 ∷ 0x2E ∷ 0x03 ∷ 0x35 ∷ 0x04 ∷ []
 
-pub reading_can_be : (k : Fact → Standing) → (has_gap (events_from Pt6302 0 shown_behind) ≡ true) × (end_of (walked Pt6302 shown_behind) ≡ Done)
+pub reading_can_be : (k : Fact → Standing) → (has_gap (events_from Pt6302 0 shown_behind) ≡ true) × (end_of (walked Pt6302 shown_behind) ≡ Ok tt)
     × (temperature_of (in_turn same? range (moves_from Pt6302 0 shown_behind) k) 0 ≡ reading (negsuc 14))
 unfolding ℕ_discrete set_bits digit
 reading_can_be k = (refl, refl, refl)

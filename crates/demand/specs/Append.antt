@@ -1,15 +1,13 @@
 -- Replaying two recordings one after the other is replaying their concatenation, where its length is allowed. The
 -- argument: the walk over both is the walk over the first and then over the second
 -- (`recording/Cut.walked_append`), and events in turn are what they are in one row.
-use Rattle.std.specs.Prelude.{ℕ, ◌+◌, ◌≤◌, ◌≡◌, List, ◌++◌, length}
+use Rattle.std.specs.Prelude.{ℕ, ◌+◌, ◌≤◌, ◌≡◌, List, ◌++◌, length, Ok, Err}
 use Rattle.std.proofs.Common.{arith, sym, ap, ◌∙◌}
 use Rattle.terms.specs.Part.{part_of}
 use Rattle.terms.specs.declared.Part.{Part}
-use Rattle.terms.specs.declared.PartRead.TheVariants.{Is}
-use Rattle.recording.specs.Walk.{walked, events, end_of}
+use Rattle.recording.specs.Walk.{walked, events, end_of, stop_of}
 use Rattle.recording.specs.Append.{shifted}
 use Rattle.recording.specs.Cut.{walked_append}
-use Rattle.recording.specs.declared.Ending.TheVariants.{Done, Stops}
 use Rattle.recording.specs.Record as Record
 use Rattle.walks.specs.Turn.{turn_on}
 use Rattle.parts.specs.Facts.{Fact, same?, range, move}
@@ -20,7 +18,7 @@ use Rattle.answers.specs.Answer.{number, place}
 use Rattle.replay.specs.Replay.{RefusedBy, ByEnding, PartDone, Replays, ends_by}
 use Rattle.replay.specs.ByPart.{Acceptable, replays_by, accepted, passed, record_refused}
 
-module _ (b : ℕ) (p : Part) (named : part_of b ≡ Is p) (k : Panel) (l m : List ℕ) (r q s : Replayed)
+module _ (b : ℕ) (p : Part) (named : part_of b ≡ Ok p) (k : Panel) (l m : List ℕ) (r q s : Replayed)
     (room : length (l ++ m) ≤ 65535) (first : Replays (part_of b) k l 0 r) (zero : number r.answer ≡ 0)
     (second : Replays (part_of b) r.panel m 0 q) (both : Replays (part_of b) k (l ++ m) 0 s) where
   begun : Acceptable p k l 0 × PartDone p (events (walked p l)) k l r
@@ -42,7 +40,7 @@ module _ (b : ℕ) (p : Part) (named : part_of b ≡ Is p) (k : Panel) (l m : Li
       then = accepted p r.panel m 0 q (replays_by r.panel m 0 q (part_of b) p named second) z
 
       d : PartDone p (events (walked p (l ++ m))) k (l ++ m) s
-      d = ends_by _ Done 0 k s _ (ap (shifted (length l)) then.0.ends) rest
+      d = ends_by _ (Ok tt) 0 k s _ (ap (shifted (length l)) then.0.ends) rest
 
       same : (f : Fact p) → known_of p s.panel f ≡ known_of p q.panel f
       same f =
@@ -56,7 +54,7 @@ module _ (b : ℕ) (p : Part) (named : part_of b ≡ Is p) (k : Panel) (l m : Li
       → (number s.answer ≡ number q.answer) × (place s.answer ≡ length l + place q.answer) × (s.panel ≡ k)
   append_refused five =
       let (x, at, stops, h) = record_refused p r.panel m 0 q (replays_by r.panel m 0 q (part_of b) p named second) five in
-      let g : RefusedBy (Record.number x) (0 + (length l + at.0)) k s = ends_by _ (Stops x (record { 0 = length l + at.0 })) 0 k s _ (ap (shifted (length l)) stops) rest in
+      let g : RefusedBy (Record.number x) (0 + (length l + at.0)) k s = ends_by _ (Err (stop_of x (record { 0 = length l + at.0 }))) 0 k s _ (ap (shifted (length l)) stops) rest in
       let there = h.placed in
       let here = g.placed in
       (g.numbered ∙ sym h.numbered, omega (arith, there, here), g.kept)

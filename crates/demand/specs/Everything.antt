@@ -24,8 +24,7 @@ use Rattle.segment.specs.Fact as Segment
 use Rattle.segment.specs.Laws as SegmentLaws
 use Rattle.character.specs.Fact as Character
 use Rattle.character.specs.Laws as CharacterLaws
-use Rattle.segment_knowledge.specs.declared.Pointing.TheVariants as OfSegment
-use Rattle.fact.specs.declared.Pointing.TheVariants as OfCharacter
+use Rattle.segment.specs.declared.Pointer.TheVariants.{At}
 use Rattle.parts.specs.Facts.{Fact, range}
 use Rattle.panel.specs.declared.Panel.{Panel}
 use Rattle.panel.specs.View.{known_of}
@@ -93,7 +92,7 @@ everything = record {
   segment = record {
     cells = replicate 36 0xFF00;
     control = record {
-      address = OfSegment.At (record { 0 = 0 });
+      address = Known (At (record { 0 = 0 }));
       «data» = Known 0;
       stepping = Known 0;
       mode = Known 0;
@@ -111,9 +110,9 @@ everything = record {
     cgram = replicate 40 0x7F00;
     adram = replicate 16 0x0300;
     control = record {
-      dcram_at = OfCharacter.At (record { 0 = 0 });
-      cgram_at = OfCharacter.At (record { 0 = 0 });
-      adram_at = OfCharacter.At (record { 0 = 0 });
+      dcram_at = Known (record { 0 = 0 });
+      cgram_at = Known (record { 0 = 0 });
+      adram_at = Known (record { 0 = 0 });
       column = Known 0;
       port = 0x0300;
       duty = Known 0;

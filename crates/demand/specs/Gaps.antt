@@ -1,7 +1,7 @@
 -- What stands behind the last gap of a recording. The argument, by induction over the records: where a later record
 -- is a gap, it is the later records' last; else a gap here is the last, and what follows its one byte are the later
 -- records.
-use Rattle.std.specs.Prelude.{ℕ, zero, suc, ◌+◌, ◌≤◌, ◌≡◌, Bool, ◌||◌, List, [], ◌∷◌, ◌++◌, length, drop, get_or, eqb, ltb}
+use Rattle.std.specs.Prelude.{ℕ, zero, suc, ◌+◌, ◌≤◌, ◌≡◌, Bool, ◌||◌, List, [], ◌∷◌, ◌++◌, length, drop, get_or, eqb, ltb, Ok, Err}
 use Rattle.std.proofs.Common.{arith, sym, ap, ◌∙◌, true≢false, length-drop, drop-drop, eqb-true}
 use Rattle.std.proofs.Math.Path.{refl}
 use Rattle.std.proofs.Math.Bool.{true, false}
@@ -9,12 +9,8 @@ use Rattle.rules.specs.Choice.{whether_all}
 use Rattle.terms.specs.declared.Event.{Event}
 use Rattle.terms.specs.declared.Event.TheVariants.{Power, Falls, ByteIn, Rises, Gap, Unfinished, Keys, Switches, ByteOut}
 use Rattle.terms.specs.declared.Part.{Part}
-use Rattle.recording.specs.declared.Read.{Read}
-use Rattle.recording.specs.declared.Read.TheVariants.{Is, Refused}
-use Rattle.recording.specs.declared.Ending.{Ending}
-use Rattle.recording.specs.declared.Ending.TheVariants.{Done, Stops}
-use Rattle.recording.specs.Record.{listed, belongs, body_of, allowed, event_of, front}
-use Rattle.recording.specs.Walk.{Walk, next, step, walk, walked, events, end_of, on_gap, behind_gap}
+use Rattle.recording.specs.Record.{listed, belongs, body_of, allowed, event_of, front, Read}
+use Rattle.recording.specs.Walk.{Walk, next, step, walk, walked, events, end_of, on_gap, behind_gap, Ending}
 use Rattle.recording.specs.Tests.{record_fits}
 use Rattle.recording.specs.Steps.{enough}
 use Rattle.recording.specs.Append.{shifted, from_place}
@@ -39,8 +35,8 @@ gap_body k b0 b1 b2 b3 =
     P e = is_gap e ≡ true → body_of k ≡ 0
 
 GapIsOne : Read → Type 0
-GapIsOne (Is e m) = is_gap e ≡ true → m ≡ 1
-GapIsOne (Refused r) = Unit
+GapIsOne (Ok it) = is_gap it.event ≡ true → it.length ≡ 1
+GapIsOne (Err r) = Unit
 
 gap_is_one : (p : Part) (l : List ℕ) → GapIsOne (front p l)
 unfolding GapIsOne
@@ -77,13 +73,13 @@ off_gap (Keys k0 k1 k2 k3) x y g = refl
 off_gap (Switches v) x y g = refl
 off_gap ByteOut x y g = refl
 
-unshifted : (n : ℕ) (e : Ending) → shifted n e ≡ Done → e ≡ Done
-unshifted n Done q = refl
-unshifted n (Stops r at) q = absurd (let z : ◌≡◌ {A = ℕ} 0 1 = cc in omega arith)
+unshifted : (n : ℕ) (e : Ending) → shifted n e ≡ Ok tt → e ≡ Ok tt
+unshifted n (Ok u) q = refl
+unshifted n (Err s) q = absurd (let z : ◌≡◌ {A = ℕ} 0 1 = cc in omega arith)
 
 -- The walk over the bytes from j on, counted anew, and the walk from there with more steps than bytes.
-anew : (n : ℕ) (p : Part) (at : ℕ) (l : List ℕ) → length l ≤ n → end_of (walk n p at l) ≡ Done
-    → (events (walk n p at l) ≡ events (walked p l)) × (end_of (walked p l) ≡ Done)
+anew : (n : ℕ) (p : Part) (at : ℕ) (l : List ℕ) → length l ≤ n → end_of (walk n p at l) ≡ Ok tt
+    → (events (walk n p at l) ≡ events (walked p l)) × (end_of (walked p l) ≡ Ok tt)
 anew n p at l h q =
     let f = from_place n p at l in
     let same : walk n p 0 l ≡ walked p l = enough n (length l) p 0 l h (omega arith) in
@@ -97,7 +93,7 @@ pub record Behind (p : Part) (at : ℕ) (l : List ℕ) (w : Walk) (place : ℕ) 
   pub placed : place ≡ at + skipped
   pub before : List Event
   pub parted : events w ≡ before ++ (Gap ∷ events (walked p (drop skipped l)))
-  pub ends : end_of (walked p (drop skipped l)) ≡ Done
+  pub ends : end_of (walked p (drop skipped l)) ≡ Ok tt
 
 -- By whether there is one: without, the place is where the search began.
 abbrev pub ByGap : Bool → Part → ℕ → ℕ → List ℕ → Walk → Type 0
@@ -120,7 +116,7 @@ module _ (p : Part) (at : ℕ) (l : List ℕ) (e : Event) (m from : ℕ) (w : Wa
       }
 
   -- The last gap is here.
-  here : is_gap e ≡ true → m ≡ 1 → behind_gap (on_gap e (at + 1) from) w ≡ on_gap e (at + 1) from → (events w ≡ events (walked p (drop m l))) × (end_of (walked p (drop m l)) ≡ Done)
+  here : is_gap e ≡ true → m ≡ 1 → behind_gap (on_gap e (at + 1) from) w ≡ on_gap e (at + 1) from → (events w ≡ events (walked p (drop m l))) × (end_of (walked p (drop m l)) ≡ Ok tt)
       → Behind p at l (next at e w) (behind_gap from (next at e w))
   here g one none (same, ends) =
       let (is, on) = on_gap_lem e (at + 1) from g in
@@ -133,36 +129,36 @@ module _ (p : Part) (at : ℕ) (l : List ℕ) (e : Event) (m from : ℕ) (w : Wa
         ends = ends;
       }
 
-search_gap : (n : ℕ) (p : Part) (from at : ℕ) (l : List ℕ) → length l ≤ n → end_of (walk n p at l) ≡ Done → ByGap (has_gap (events (walk n p at l))) p from at l (walk n p at l)
+search_gap : (n : ℕ) (p : Part) (from at : ℕ) (l : List ℕ) → length l ≤ n → end_of (walk n p at l) ≡ Ok tt → ByGap (has_gap (events (walk n p at l))) p from at l (walk n p at l)
 search_gap zero p from at l h q = refl
 search_gap (suc n) p from at [] h q = refl
 search_gap (suc n) p from at (b ∷ l) h q =
     go (front p (b ∷ l)) refl (gap_is_one p (b ∷ l)) q (λ f m x y. search_gap n p f (at + m) (drop m (b ∷ l)) x y)
   where
     go : (r : Read) → front p (b ∷ l) ≡ r → GapIsOne r
-        → end_of (step at b (λ m. walk n p (at + m) (drop m (b ∷ l))) r) ≡ Done
-        → ((f m : ℕ) → length (drop m (b ∷ l)) ≤ n → end_of (walk n p (at + m) (drop m (b ∷ l))) ≡ Done
+        → end_of (step at b (λ m. walk n p (at + m) (drop m (b ∷ l))) r) ≡ Ok tt
+        → ((f m : ℕ) → length (drop m (b ∷ l)) ≤ n → end_of (walk n p (at + m) (drop m (b ∷ l))) ≡ Ok tt
         → ByGap (has_gap (events (walk n p (at + m) (drop m (b ∷ l))))) p f (at + m) (drop m (b ∷ l)) (walk n p (at + m) (drop m (b ∷ l))))
         → ByGap (has_gap (events (step at b (λ m. walk n p (at + m) (drop m (b ∷ l))) r))) p from at (b ∷ l)
         (step at b (λ m. walk n p (at + m) (drop m (b ∷ l))) r)
-    go (Is e m) f one d ih =
-        let fit = record_fits p (b ∷ l) e m f in
-        let ld = length-drop m (b ∷ l) in
-        let short : length (drop m (b ∷ l)) ≤ n = omega (arith, fit, ld, h) in
-        by (is_gap e) (has_gap (events (walk n p (at + m) (drop m (b ∷ l))))) refl (ih (on_gap e (at + 1) from) m short d) fit.1 (anew n p (at + m) (drop m (b ∷ l)) short d)
+    go (Ok it) f one d ih =
+        let fit = record_fits p (b ∷ l) it.event it.length f in
+        let ld = length-drop it.length (b ∷ l) in
+        let short : length (drop it.length (b ∷ l)) ≤ n = omega (arith, fit, ld, h) in
+        by (is_gap it.event) (has_gap (events (walk n p (at + it.length) (drop it.length (b ∷ l))))) refl (ih (on_gap it.event (at + 1) from) it.length short d) fit.1 (anew n p (at + it.length) (drop it.length (b ∷ l)) short d)
       where
         w : Walk
-        w = walk n p (at + m) (drop m (b ∷ l))
+        w = walk n p (at + it.length) (drop it.length (b ∷ l))
 
-        by : (t u : Bool) → is_gap e ≡ t → ByGap u p (on_gap e (at + 1) from) (at + m) (drop m (b ∷ l)) w → m ≤ length (b ∷ l)
-            → (events w ≡ events (walked p (drop m (b ∷ l)))) × (end_of (walked p (drop m (b ∷ l))) ≡ Done)
-            → ByGap (t || u) p from at (b ∷ l) (next at e w)
-        by true true g x fit s = later p at (b ∷ l) e m from w fit x
-        by true false g x fit s = here p at (b ∷ l) e m from w fit g (unfold GapIsOne in one g) x s
-        by false true g x fit s = later p at (b ∷ l) e m from w fit x
-        by false false g x fit s = x ∙ off_gap e (at + 1) from g
-    go (Refused x) f one d ih = refl
+        by : (t u : Bool) → is_gap it.event ≡ t → ByGap u p (on_gap it.event (at + 1) from) (at + it.length) (drop it.length (b ∷ l)) w → it.length ≤ length (b ∷ l)
+            → (events w ≡ events (walked p (drop it.length (b ∷ l)))) × (end_of (walked p (drop it.length (b ∷ l))) ≡ Ok tt)
+            → ByGap (t || u) p from at (b ∷ l) (next at it.event w)
+        by true true g x fit s = later p at (b ∷ l) it.event it.length from w fit x
+        by true false g x fit s = here p at (b ∷ l) it.event it.length from w fit g (unfold GapIsOne in one g) x s
+        by false true g x fit s = later p at (b ∷ l) it.event it.length from w fit x
+        by false false g x fit s = x ∙ off_gap it.event (at + 1) from g
+    go (Err x) f one d ih = refl
 
 -- The last gap of a recording whose records are done, and what stands behind it.
-pub last_gap : (p : Part) (l : List ℕ) → end_of (walked p l) ≡ Done → ByGap (has_gap (events (walked p l))) p 0 0 l (walked p l)
+pub last_gap : (p : Part) (l : List ℕ) → end_of (walked p l) ≡ Ok tt → ByGap (has_gap (events (walked p l))) p 0 0 l (walked p l)
 last_gap p l q = search_gap (length l) p 0 0 l (omega arith) q

@@ -1,7 +1,6 @@
 -- What is said of the answers of packets, and a record that is cut in two; where packets point stands in proofs/Places.
 use Rattle.std.specs.Prelude.{ℕ, ◌≤◌, ◌≡◌, List, [], ◌∷◌}
-use Rattle.answers.specs.declared.Answer.{Answer}
-use Rattle.answers.specs.Answer.{number}
+use Rattle.answers.specs.Answer.{Answer, number}
 use Rattle.packets.specs.declared.records.Taken.{Taken}
 
 -- Each answer of 5, 6, 7 or 8 is a.

@@ -6,5 +6,5 @@ use Rattle.packets.specs.declared.records.Taken.{Taken}
 -- The same answer, unfinished bytes and standing refusal.
 pub record SameButTotal (q t : Taken) : Type 0 where
   pub answer : q.answer ≡ t.answer
-  pub unfinished : bytes_of q.feed.unfinished ≡ bytes_of t.feed.unfinished
-  pub stands : q.feed.kept ≡ t.feed.kept
+  pub unfinished : bytes_of q.feed.account.unfinished ≡ bytes_of t.feed.account.unfinished
+  pub stands : q.feed.account.kept ≡ t.feed.account.kept

@@ -1,7 +1,7 @@
 -- The bytes of an update, from `update` to a chip and from `update` to `replay` (paper 02, M-102). The argument: where `update` answers number 0, what it wrote
 -- in front is the recording of the update's events, which is read back as these events (`updated/ByPart`); they lead every chip that fits to the updated one,
 -- and the knowledge to what is known then, which is what `refresh` gives (M-110).
-use Rattle.std.specs.Prelude.{ℕ, ◌+◌, ◌<◌, ◌≤◌, ◌≡◌, refl, Bool, true, false, List, [], ◌++◌, map, length, take, drop, eqb, ltb}
+use Rattle.std.specs.Prelude.{ℕ, ◌+◌, ◌<◌, ◌≤◌, ◌≡◌, refl, Bool, true, false, List, [], ◌++◌, map, length, take, drop, eqb, ltb, Ok}
 use Rattle.std.proofs.Common.{arith, sym, ap, ◌∙◌, subst, take_at}
 use Rattle.std.proofs.Math.Path.{subst⁻¹}
 use Rattle.rules.specs.Choice.{whether}
@@ -12,12 +12,9 @@ use Rattle.knowing.specs.Holds.{holds}
 use Rattle.knowing.specs.Bytes.{holds_tests}
 use Rattle.terms.specs.declared.Event.{Event}
 use Rattle.terms.specs.Event.{recording}
-use Rattle.terms.specs.Part.{part_of}
+use Rattle.terms.specs.Part.{PartRead, part_of}
 use Rattle.terms.specs.declared.Part.{Part}
 use Rattle.terms.specs.declared.Part.TheVariants.{Pt6302, Pt6312, Pt6315}
-use Rattle.terms.specs.declared.PartRead.{PartRead}
-use Rattle.terms.specs.declared.PartRead.TheVariants.{Is}
-use Rattle.recording.specs.declared.Ending.TheVariants.{Done}
 use Rattle.recording.specs.Walk.{walked, events, end_of}
 use Rattle.segment.specs.declared.Family.{Family}
 use Rattle.segment.specs.declared.Family.TheVariants as OfFamily
@@ -39,9 +36,8 @@ use Rattle.answers.specs.Answer as Replay
 use Rattle.replay.specs.Replay.{Replays}
 use Rattle.whole.specs.Sentence.{IsMemory}
 use Rattle.runs.specs.Count.{bytes_in}
-use Rattle.updating.specs.declared.Updated.{Updated}
 use Rattle.updating.specs.declared.Refreshed.{Refreshed}
-use Rattle.updating.specs.Answer.{number, place, count, Sent, stream_of, count_of, UpdatesSegment, UpdatesPart, Updates}
+use Rattle.updating.specs.Answer.{Updated, number, place, count, Sent, stream_of, count_of, UpdatesSegment, UpdatesPart, Updates}
 use Rattle.updating.specs.Longest.{most_bytes}
 use Rattle.updating.specs.Refresh.{known_for, Learns, KnownThen, Refreshes}
 use Rattle.runs.specs.Runs.{wanted}
@@ -114,11 +110,11 @@ nothing_part Pt6302 x k w out r after s e h = absurd x
 nothing_part Pt6312 x k w out r after s e h = nothing_segment OfFamily.Pt6312 k w out r after s e h
 nothing_part Pt6315 x k w out r after s e h = nothing_segment OfFamily.Pt6315 k w out r after s e h
 
-by_part : (part : PartRead) (p : Part) → part ≡ Is p → (k : Panel) (w out : List ℕ) (r : Updated) (after : List ℕ) → Updates part k w out r after → UpdatesPart p k w out r after
+by_part : (part : PartRead) (p : Part) → part ≡ Ok p → (k : Panel) (w out : List ℕ) (r : Updated) (after : List ℕ) → Updates part k w out r after → UpdatesPart p k w out r after
 by_part part p e k w out r after h = subst (λ (x : PartRead). Updates x k w out r after) e h
 
 -- A part byte that names a part; the answer r and the output afterwards are what `update` promises.
-module _ (b : ℕ) (p : Part) (named : part_of b ≡ Is p) (k : Panel) (w out : List ℕ) (r : Updated) (after : List ℕ) (met : Updates (part_of b) k w out r after) where
+module _ (b : ℕ) (p : Part) (named : part_of b ≡ Ok p) (k : Panel) (w out : List ℕ) (r : Updated) (after : List ℕ) (met : Updates (part_of b) k w out r after) where
   -- That it is sent can always be had: for PT6312 and PT6315, from any knowledge in range, with 112 bytes.
   pub update_answers : HasRing p → Sound (range p) (known_of p k) → 112 ≤ length out → number r ≡ 0
   update_answers x s l = sent_part p x k w out r after s l (by_part (part_of b) p named k w out r after met)
@@ -143,12 +139,12 @@ module _ (b : ℕ) (p : Part) (named : part_of b ≡ Is p) (k : Panel) (w out : 
     pub update_recorded : Recorded p (update_for p (known_of p k) w) stream
     update_recorded = let few = done.short in record { is = stream_is; accepted = reads p done.ring (known_of p k) w; short = omega arith }
 
-    read : (end_of (walked p stream) ≡ Done) × (events (walked p stream) ≡ update_for p (known_of p k) w)
+    read : (end_of (walked p stream) ≡ Ok tt) × (events (walked p stream) ≡ update_for p (known_of p k) w)
     read = recorded_reads p (update_for p (known_of p k) w) stream update_recorded
 
     -- "For every chip that fits, the memory ends as after a full painting": the bytes are records to their end, and their events lead every chip that fits, in
     -- whatever state, to exactly one, the updated one.
-    pub update_brings : (end_of (walked p stream) ≡ Done)
+    pub update_brings : (end_of (walked p stream) ≡ Ok tt)
         × ((c : Fact p → ℕ) → Fits (known_of p k) c → OneEnd (range p) (map (move p) (events_from p 0 stream)) c (updated_by p (known_of p k) w c))
     update_brings = (
       read.0,
@@ -189,10 +185,10 @@ module _ (b : ℕ) (p : Part) (named : part_of b ≡ Is p) (k : Panel) (w out : 
         (λ j l. (update_replays q again).2 (cell_in p x i j) ∙ spelt p x (known_of p k) w i h j l)
 
 -- The answer r of `refresh` and the output afterwards, where the update was sent.
-module _ (b : ℕ) (p : Part) (named : part_of b ≡ Is p) (k : Panel) (w out : List ℕ) (r : Refreshed) (after : List ℕ) (met : Refreshes (part_of b) k w out r after)
+module _ (b : ℕ) (p : Part) (named : part_of b ≡ Ok p) (k : Panel) (w out : List ℕ) (r : Refreshed) (after : List ℕ) (met : Refreshes (part_of b) k w out r after)
     (zero : number r.answer ≡ 0) where
   learns : Learns p k w r.panel
-  learns = subst (λ (n : ℕ). KnownThen (Is p) n k w r.panel) zero (subst (λ (x : PartRead). KnownThen x (number r.answer) k w r.panel) named met.1)
+  learns = subst (λ (n : ℕ). KnownThen (Ok p) n k w r.panel) zero (subst (λ (x : PartRead). KnownThen x (number r.answer) k w r.panel) named met.1)
 
   -- Every cell is then known to hold its wanted byte.
   pub refresh_holds : (x : HasRing p) (i : ℕ) → i < cells_of p → holds 8 (λ j. known_of p r.panel (cell_in p x i j)) (wanted w i) ≡ true

@@ -1,79 +1,83 @@
-// What is known of a PT6302 panel, in words.
-use crate::codes;
-use crate::codes::{code, lamps_code, partly};
+// What is known of a PT6302 panel, in words. It begins with a line end and has none behind it.
+use crate::facts::{Fact, Shown, write_known, write_line};
+use crate::rows::Runs;
 use character_knowledge::{Control, Knowledge, Pointing};
-use example_text::{character, show_facts};
 use std::io;
 
-// Writes everything, and what is unknown, on three lines, or all but unknown single facts on one. It begins with a line end and has none behind it.
-pub fn show_characters(rt: &impl Print, k: Knowledge, all: bool) -> io::Result<()> {
-    let row = codes_of(k.control);
-    if all {
-        control(rt, row, k.control.port, true)?;
-        memory(rt, k, b';')
-    } else {
-        memory(rt, k, b',')?;
-        control(rt, row, k.control.port, false)
-    }
+// The names stand in the order of the numbers that `character_knowledge` gives them.
+const POSITIONS: [&str; 6] = [
+    "idle",
+    "first byte",
+    "to DCRAM",
+    "to CGRAM",
+    "to ADRAM",
+    "ignoring",
+];
+
+const LIGHTS: [&str; 3] = ["normal", "off", "on"];
+
+// Writes everything, and what is unknown, on three lines.
+pub fn write_character(rt: &impl Print, k: &Knowledge) -> io::Result<()> {
+    write_line(rt, &writing(&k.control))?;
+    write_line(rt, &settings(&k.control))?;
+    memory(rt, k, ';')
 }
 
-fn codes_of(c: Control) -> [u16; 10] {
-    let position = c.position;
-    let dcram = c.dcram_at;
-    let cgram = c.cgram_at;
-    let column = c.column;
-    let adram = c.adram_at;
-    let port = c.port;
-    let duty = c.duty;
-    let digits = c.digits;
-    let lights = c.lights;
+// Writes all but unknown single facts, on one line.
+pub fn write_known_character(rt: &impl Print, k: &Knowledge) -> io::Result<()> {
+    memory(rt, k, ',')?;
+    write_known(rt, &writing(&k.control))?;
+    write_known(rt, &settings(&k.control))
+}
+
+// What the next byte goes by.
+fn writing(c: &Control) -> [Fact; 5] {
     [
-        code(position),
-        address(dcram),
-        address(cgram),
-        code(column),
-        address(adram),
-        lamps_code(port, 0x03),
-        code(duty),
-        code(digits),
-        code(lights),
-        256,
+        ("position", Shown::named(c.position, &POSITIONS)),
+        ("DCRAM at", address(c.dcram_at)),
+        ("CGRAM at", address(c.cgram_at)),
+        ("column", Shown::number(c.column)),
+        ("ADRAM at", address(c.adram_at)),
     ]
 }
 
-fn address(to: Pointing) -> u16 {
+fn settings(c: &Control) -> [Fact; 4] {
+    [
+        ("port", Shown::bits(c.port, 0x03)),
+        ("duty", Shown::number(c.duty)),
+        ("digits", Shown::number(c.digits)),
+        ("lights", Shown::named(c.lights, &LIGHTS)),
+    ]
+}
+
+fn address(to: Pointing) -> Shown {
     match to {
-        Pointing::At(cell) => cell.0 as u16 + 512,
-        Pointing::Unknown => 256,
+        Pointing::Known(cell) => Shown::Cell(cell),
+        Pointing::Unknown => Shown::Unknown,
     }
 }
 
-// The names stand in the order of the numbers that `character_knowledge` gives them.
-fn control(rt: &impl Print, codes: [u16; 10], port: u16, all: bool) -> io::Result<()> {
-    facts(rt, codes, 0, 6, all)?;
-    partly(rt, port, 0x03)?;
-    facts(rt, codes, 6, 9, all)
-}
-
-fn facts(rt: &impl Print, codes: [u16; 10], from: usize, to: usize, all: bool) -> io::Result<()> {
-    show_facts(
-        rt,
-        b"\n    |position /idle/first byte/to DCRAM/to CGRAM/to ADRAM/ignoring;, |DCRAM at ;, |CGRAM at ;, |column ;, |ADRAM at ;\n    |port ;, |duty ;, |digits ;, |lights /normal/off/on",
-        codes,
-        from,
-        to,
-        all,
-    )
-}
-
 // The RAMs stand on one line, with a mark between them.
-fn memory(rt: &impl Print, k: Knowledge, mark: u8) -> io::Result<()> {
-    let dcram = k.dcram;
-    codes::runs(rt, b"\n    DCRAM", 0xFF, &dcram, 16)?;
-    character(rt, mark)?;
-    let cgram = k.cgram;
-    codes::runs(rt, b" CGRAM", 0x7F, &cgram, 40)?;
-    character(rt, mark)?;
-    let adram = k.adram;
-    codes::runs(rt, b" ADRAM", 0x03, &adram, 16)
+fn memory(rt: &impl Print, k: &Knowledge, mark: char) -> io::Result<()> {
+    print!(rt;
+        "\n    DCRAM{}{mark}",
+        Runs {
+            codes: &k.dcram,
+            full: 0xFF
+        }
+    )?;
+    print!(rt;
+        " CGRAM{}{mark}",
+        Runs {
+            codes: &k.cgram,
+            full: 0x7F
+        }
+    )?;
+    print!(rt;
+        " ADRAM{}",
+        Runs {
+            codes: &k.adram,
+            full: 0x03
+        }
+    )
 }

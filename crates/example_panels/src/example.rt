@@ -1,83 +1,91 @@
-// A line of examples: its part byte, how far its bytes go, which stand in lent memory, and what its words say.
-use crate::memory::{put, repeat};
+// A line of examples, but for its bytes.
+use crate::bytes::Bytes;
 use example_text::Word;
+
+// What the lines of a section are about.
+#[derive(Clone, Copy, PartialEq, Eq)]
+pub enum Section {
+    Events,
+    Recordings,
+    Packets,
+    Updates,
+    Temperatures,
+}
+
+// By the first letter of its name; any other is that of packets, and so are lines before the first name.
+impl From<u8> for Section {
+    fn from(letter: u8) -> Section {
+        match letter {
+            b'e' => Section::Events,
+            b'r' => Section::Recordings,
+            b'u' => Section::Updates,
+            b't' => Section::Temperatures,
+            _ => Section::Packets,
+        }
+    }
+}
+
+// What a line that is run begins with.
+#[derive(Clone, Copy, PartialEq, Eq)]
+pub enum Begins {
+    PartByte,
+    // With /: it is a packet.
+    Packet,
+}
 
 #[derive(Clone, Copy)]
 pub struct Example {
-    // The first letter of the section that it stands in: events, recordings, packets, updates or temperatures.
-    pub section: u8,
+    pub section: Section,
     // The part byte, which holds for the packets behind its line, too.
     pub part: u8,
-    // Whether the part byte or / was read, whether the line is a packet, and whether a name stands in it.
-    pub begun: bool,
-    pub packet: bool,
+    // None where the line is not run, or nothing of it was read.
+    pub begins: Option<Begins>,
+    // Whether a name stands in it.
     pub worded: bool,
-    // How many bytes there are so far, and how many there were at the last mark.
-    pub length: usize,
-    mark: usize,
-    // The words that begin with @ and with $.
-    pub start: Word,
-    pub refusal: Word,
+    // The number that begins with @.
+    pub start: Option<usize>,
+    // The word that begins with $.
+    pub refusal: Option<Word>,
 }
 
 impl Example {
     // A line of which nothing was read, in a section and behind a part byte.
-    pub fn new(section: u8, part: u8) -> Example {
+    pub fn new(section: Section, part: u8) -> Example {
         Example {
             section,
             part,
-            begun: false,
-            packet: false,
+            begins: None,
             worded: false,
-            length: 0,
-            mark: 0,
-            start: Word::new(),
-            refusal: Word::new(),
+            start: None,
+            refusal: None,
         }
     }
 
-    // With one more word that ended. Before the part byte or /, a name is that of a section, and a remark, which begins with #, is one word and nothing.
-    pub fn with(mut self, word: Word, memory: &mut [u8]) -> Example {
-        let name = word.name;
-        if self.begun {
-            return self.with_behind(word, memory);
+    // Reads one more word that ended. Before the part byte or /, a name is that of a section, and a remark, which begins with #, is one word and nothing.
+    pub fn read<const ROOM: usize>(&mut self, word: Word, bytes: &mut Bytes<ROOM>) {
+        if self.begins.is_some() {
+            return self.read_behind(word, bytes);
         }
-        match name {
-            b'0' => {
+        match word.name {
+            Some(b'0') => {
                 self.part = word.byte();
-                self.begun = true;
+                self.begins = Some(Begins::PartByte);
             }
-            b'/' => {
-                self.packet = true;
-                self.begun = true;
-            }
-            b'a'..=b'z' => self.section = name,
+            Some(b'/') => self.begins = Some(Begins::Packet),
+            Some(letter @ b'a'..=b'z') => self.section = Section::from(letter),
             _ => {}
         }
-        self
     }
 
-    fn with_behind(mut self, word: Word, memory: &mut [u8]) -> Example {
-        let name = word.name;
-        match name {
-            b'0' => self.length = put(memory, self.length, word.byte()),
-            b'*' => self.length = repeat(memory, self.mark, self.length, word.number),
-            b'(' => self.mark = self.length,
-            b'@' => self.start = word,
-            b'$' => self.refusal = word,
-            b'a'..=b'z' => self.worded = true,
+    fn read_behind<const ROOM: usize>(&mut self, word: Word, bytes: &mut Bytes<ROOM>) {
+        match word.name {
+            Some(b'0') => bytes.push(word.byte()),
+            Some(b'*') => bytes.repeat(word.number),
+            Some(b'(') => bytes.mark(),
+            Some(b'@') => self.start = Some(word.number),
+            Some(b'$') => self.refusal = Some(word),
+            Some(b'a'..=b'z') => self.worded = true,
             _ => {}
-        }
-        self
-    }
-
-    // Its bytes, at the front of the memory that was lent for them.
-    pub fn bytes(self, memory: &[u8]) -> &[u8] {
-        let length = self.length;
-        if length <= memory.len() {
-            &memory[..length]
-        } else {
-            memory
         }
     }
 }

@@ -1,118 +1,87 @@
-// What the words of a line tell, before a panel is made of it: the code of each fact. A single fact is a number below 256, and 256 where it is unknown;
-// memory, LED and port have the codes of `lamps`.
+// Single facts, in words.
+use crate::rows::Lamps;
+use fact::Single;
+use std::{fmt, io};
+use terms::Address;
 
+// What is shown of a fact.
 #[derive(Clone, Copy)]
-pub struct Told {
-    pub segment: Segments,
-    pub character: Characters,
+pub enum Shown {
+    Unknown,
+    Invalid,
+    Number(u8),
+    Named(&'static str),
+    // An address, in hex.
+    Cell(Address),
+    // Bits of which some are known, and not all.
+    Bits(Lamps),
 }
 
-// Of PT6312 and PT6315. An address that is invalid is 257.
-#[derive(Clone, Copy)]
-pub struct Segments {
-    pub cells: [u16; 36],
-    pub keys: [u16; 4],
-    pub position: u16,
-    pub data: u16,
-    pub stepping: u16,
-    pub address: u16,
-    pub count: u16,
-    pub mode: u16,
-    pub dimming: u16,
-    pub display: u16,
-    pub led: u16,
-    pub switches: u16,
-}
+impl Shown {
+    // A number that has no name.
+    pub fn number(fact: Single<u8>) -> Shown {
+        match fact {
+            Single::Known(n) => Shown::Number(n),
+            Single::Unknown => Shown::Unknown,
+        }
+    }
 
-// Of PT6302.
-#[derive(Clone, Copy)]
-pub struct Characters {
-    pub dcram: [u16; 16],
-    pub cgram: [u16; 40],
-    pub adram: [u16; 16],
-    pub position: u16,
-    pub dcram_at: u16,
-    pub cgram_at: u16,
-    pub adram_at: u16,
-    pub column: u16,
-    pub port: u16,
-    pub duty: u16,
-    pub digits: u16,
-    pub lights: u16,
-}
+    // A number of which those from 0 on have names.
+    pub fn named(fact: Single<u8>, names: &[&'static str]) -> Shown {
+        match fact {
+            Single::Known(n) => names
+                .get(n as usize)
+                .map_or(Shown::Number(n), |name| Shown::Named(*name)),
+            Single::Unknown => Shown::Unknown,
+        }
+    }
 
-// What all but recordings start from: a panel in the middle of writing, with a value that shows in every fact, whichever part drives it. Memory, LED and
-// port have all their marks.
-pub fn all_known() -> Told {
-    Told {
-        segment: Segments {
-            cells: [0xFF6E; 36],
-            keys: [0xA1, 0xA2, 0xA3, 0xA4],
-            position: segment_knowledge::OPEN as u16,
-            data: segment_knowledge::WRITE_DISPLAY as u16,
-            stepping: segment_knowledge::INCREMENT as u16,
-            address: 5,
-            count: 2,
-            mode: 3,
-            dimming: 5,
-            display: segment_knowledge::ON as u16,
-            led: 0x0F09,
-            switches: 6,
-        },
-        character: Characters {
-            dcram: [0xFF6E; 16],
-            cgram: [0x7F6E; 40],
-            adram: [0x0302; 16],
-            position: character_knowledge::DCRAM as u16,
-            dcram_at: 5,
-            cgram_at: 6,
-            adram_at: 7,
-            column: 3,
-            port: 0x0302,
-            duty: 5,
-            digits: 4,
-            lights: character_knowledge::ON as u16,
-        },
+    // A fact that is known bit by bit.
+    pub fn bits(code: u16, full: u8) -> Shown {
+        let [marks, values] = code.to_be_bytes();
+        if code == 0 {
+            Shown::Unknown
+        } else if marks == full {
+            Shown::Number(values)
+        } else {
+            Shown::Bits(Lamps { code, full })
+        }
     }
 }
 
-pub fn nothing_known() -> Told {
-    Told {
-        segment: no_segments(),
-        character: no_characters(),
+impl fmt::Display for Shown {
+    fn fmt<W: fmt::Write>(&self, f: &mut fmt::Formatter<W>) -> fmt::Result {
+        match self {
+            Shown::Unknown => f.write_str("unknown"),
+            Shown::Invalid => f.write_str("invalid"),
+            Shown::Number(n) => write!(f, "{n}"),
+            Shown::Named(name) => f.write_str(name),
+            Shown::Cell(address) => write!(f, "{:02X}", address.0),
+            Shown::Bits(lamps) => write!(f, "{lamps}"),
+        }
     }
 }
 
-pub fn no_segments() -> Segments {
-    Segments {
-        cells: [0; 36],
-        keys: [256; 4],
-        position: 256,
-        data: 256,
-        stepping: 256,
-        address: 256,
-        count: 256,
-        mode: 256,
-        dimming: 256,
-        display: 256,
-        led: 0,
-        switches: 256,
+// A fact, behind its title.
+pub type Fact = (&'static str, Shown);
+
+// Writes facts behind one another, each behind what leads up to it.
+pub fn write_line(rt: &impl Print, facts: &[Fact]) -> io::Result<()> {
+    let mut lead = "\n    ";
+    for (title, shown) in facts {
+        print!(rt; "{lead}{title} {shown}")?;
+        lead = ", ";
     }
+    Ok(())
 }
 
-pub fn no_characters() -> Characters {
-    Characters {
-        dcram: [0; 16],
-        cgram: [0; 40],
-        adram: [0; 16],
-        position: 256,
-        dcram_at: 256,
-        cgram_at: 256,
-        adram_at: 256,
-        column: 256,
-        port: 0,
-        duty: 256,
-        digits: 256,
-        lights: 256,
+// Writes those that are known, each behind a comma.
+pub fn write_known(rt: &impl Print, facts: &[Fact]) -> io::Result<()> {
+    for (title, shown) in facts {
+        match shown {
+            Shown::Unknown => {}
+            _ => print!(rt; ", {title} {shown}")?,
+        }
     }
+    Ok(())
 }

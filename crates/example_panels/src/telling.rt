@@ -1,128 +1,187 @@
 // What a word says of a panel.
-use crate::example::Example;
-use crate::facts::{
-    Characters, Segments, Told, all_known, no_characters, no_segments, nothing_known,
-};
-use example_text::Word;
+use crate::example::{Begins, Example, Section};
+use character_knowledge::Control as OfCharacter;
+use example_text::{INVALID, Word};
+use fact::Single;
+use panel::Panel;
+use segment::Pointer;
+use segment_knowledge::Control as OfSegment;
+use terms::Address;
 
 // What is told after a word that ended. The part byte begins a line: a recording starts from knowing nothing, and all else with everything known. A
 // packet says nothing.
-pub fn told(t: Told, example: Example, word: Word) -> Told {
-    if example.packet {
-        return t;
+pub fn told(panel: &mut Panel, example: &Example, word: Word) {
+    match example.begins {
+        Some(Begins::Packet) => {}
+        Some(Begins::PartByte) => behind(panel, example, word),
+        None => {
+            if word.name == Some(b'0') {
+                *panel = begun(example.section);
+            }
+        }
     }
-    if example.begun {
-        return behind(t, example, word);
-    }
-    if word.name != b'0' {
-        return t;
-    }
-    if example.section == b'r' {
-        nothing_known()
-    } else {
-        all_known()
+}
+
+fn begun(section: Section) -> Panel {
+    match section {
+        Section::Recordings => panel::nothing_known(),
+        _ => all_known(),
     }
 }
 
 // A word behind the part byte speaks of PT6312 and PT6315 where that names no part.
-fn behind(mut t: Told, example: Example, word: Word) -> Told {
-    if example.section == b'r' {
-        return starts(t, word.name);
+fn behind(panel: &mut Panel, example: &Example, word: Word) {
+    match word.name {
+        None => {}
+        Some(name) => {
+            if example.section == Section::Recordings {
+                start(panel, name);
+            } else if example.part == 0x02 {
+                character(&mut panel.character, name, word);
+            } else {
+                segment(&mut panel.segment, name, word);
+            }
+        }
     }
-    if example.part == 0x02 {
-        t.character = characters(t.character, word);
-    } else {
-        t.segment = segments(t.segment, word);
-    }
-    t
 }
 
-// The words of a recording: known, and then led or port, with a value that is out of range.
-fn starts(mut t: Told, name: u8) -> Told {
+// The words of a recording: known, and then led or port, with a value that is out of range. Of a word's letters the first counts.
+fn start(panel: &mut Panel, name: u8) {
     match name {
-        b'k' => return all_known(),
-        b'l' => t.segment = with_led(t.segment),
-        b'p' => t.character = with_port(t.character),
+        b'k' => *panel = all_known(),
+        b'l' => panel.segment.control.led = 0x0F10,
+        b'p' => panel.character.control.port = 0x0304,
         _ => {}
     }
-    t
 }
 
-fn with_led(mut t: Segments) -> Segments {
-    t.led = 0x0F10;
-    t
-}
-
-fn with_port(mut t: Characters) -> Characters {
-    t.port = 0x0304;
-    t
-}
-
-// Of a word's letters the first counts.
-fn segments(mut t: Segments, word: Word) -> Segments {
-    let name = word.name;
-    let at = word.at;
-    let code = word.code();
+fn segment(knows: &mut segment_knowledge::Knowledge, name: u8, word: Word) {
     match name {
-        b'n' => return no_segments(),
-        b'e' => t.cells = [word.lamps(0xFF); 36],
-        b'c' => {
-            if at < 36 {
-                t.cells[at] = word.lamps(0xFF);
-            }
-        }
-        b'k' => {
-            if at < 4 {
-                t.keys[at] = code;
-            }
-        }
-        b'i' => t.address = 257,
-        b'p' => t.position = code,
-        b'd' => t.data = code,
-        b'f' => t.stepping = code,
-        b'a' => t.address = code,
-        b'r' => t.count = code,
-        b'm' => t.mode = code,
-        b'b' => t.dimming = code,
-        b'o' => t.display = code,
-        b'l' => t.led = word.lamps(0x0F),
-        b's' => t.switches = code,
+        b'n' => *knows = segment_knowledge::nothing_known(),
+        b'e' => knows.cells = [word.lamps(0xFF); 36],
+        b'c' => store(&mut knows.cells, word.at, word.lamps(0xFF)),
+        b'k' => store(&mut knows.control.keys, word.at, word.code()),
+        _ => segment_control(&mut knows.control, name, word),
+    }
+}
+
+fn segment_control(knows: &mut OfSegment, name: u8, word: Word) {
+    match name {
+        b'i' => knows.address = segment_knowledge::Pointing::Known(Pointer::Invalid),
+        b'p' => knows.position = single(word),
+        b'd' => knows.data = single(word),
+        b'f' => knows.stepping = single(word),
+        b'a' => knows.address = segment_address(word),
+        b'r' => knows.count = single(word),
+        b'm' => knows.mode = single(word),
+        b'b' => knows.dimming = single(word),
+        b'o' => knows.display = single(word),
+        b'l' => knows.led = word.lamps(0x0F),
+        b's' => knows.switches = single(word),
         _ => {}
     }
-    t
 }
 
-fn characters(mut t: Characters, word: Word) -> Characters {
-    let name = word.name;
-    let at = word.at;
-    let code = word.code();
+fn character(knows: &mut character_knowledge::Knowledge, name: u8, word: Word) {
     match name {
-        b'n' => return no_characters(),
-        b't' => {
-            if at < 16 {
-                t.dcram[at] = word.lamps(0xFF);
-            }
-        }
-        b's' => {
-            if at < 40 {
-                t.cgram[at] = word.lamps(0x7F);
-            }
-        }
-        b'm' => {
-            if at < 16 {
-                t.adram[at] = word.lamps(0x03);
-            }
-        }
-        b'p' => t.position = code,
-        b'd' => t.dcram_at = code,
-        b'g' => t.cgram_at = code,
-        b'a' => t.adram_at = code,
-        b'c' => t.column = code,
-        b'o' => t.port = word.lamps(0x03),
-        b'b' => t.duty = code,
-        b'w' => t.digits = code,
-        b'l' => t.lights = code,
+        b'n' => *knows = character_knowledge::nothing_known(),
+        b't' => store(&mut knows.dcram, word.at, word.lamps(0xFF)),
+        b's' => store(&mut knows.cgram, word.at, word.lamps(0x7F)),
+        b'm' => store(&mut knows.adram, word.at, word.lamps(0x03)),
+        _ => character_control(&mut knows.control, name, word),
+    }
+}
+
+fn character_control(knows: &mut OfCharacter, name: u8, word: Word) {
+    match name {
+        b'p' => knows.position = single(word),
+        b'd' => knows.dcram_at = character_address(word),
+        b'g' => knows.cgram_at = character_address(word),
+        b'a' => knows.adram_at = character_address(word),
+        b'c' => knows.column = single(word),
+        b'o' => knows.port = word.lamps(0x03),
+        b'b' => knows.duty = single(word),
+        b'w' => knows.digits = single(word),
+        b'l' => knows.lights = single(word),
         _ => {}
     }
-    t
+}
+
+// What stands past the row is nothing.
+fn store(row: &mut [u16], at: usize, code: u16) {
+    if let Some(cell) = row.get_mut(at) {
+        *cell = code;
+    }
+}
+
+// A number that is no byte is not known.
+fn single(word: Word) -> Single<u8> {
+    match u8::try_from(word.code()) {
+        Ok(n) => Single::Known(n),
+        Err(_) => Single::Unknown,
+    }
+}
+
+fn segment_address(word: Word) -> segment_knowledge::Pointing {
+    if word.code() == INVALID {
+        return segment_knowledge::Pointing::Known(Pointer::Invalid);
+    }
+    match single(word) {
+        Single::Known(n) => segment_knowledge::Pointing::Known(Pointer::At(Address(n))),
+        Single::Unknown => segment_knowledge::Pointing::Unknown,
+    }
+}
+
+fn character_address(word: Word) -> character_knowledge::Pointing {
+    match single(word) {
+        Single::Known(n) => character_knowledge::Pointing::Known(Address(n)),
+        Single::Unknown => character_knowledge::Pointing::Unknown,
+    }
+}
+
+// What all but recordings start from: a panel in the middle of writing, with a value that shows in every fact, whichever part drives it. Memory, LED and
+// port have all their marks.
+fn all_known() -> Panel {
+    Panel {
+        segment: segment_known(),
+        character: character_known(),
+    }
+}
+
+fn segment_known() -> segment_knowledge::Knowledge {
+    segment_knowledge::Knowledge {
+        cells: [0xFF6E; 36],
+        control: OfSegment {
+            address: segment_knowledge::Pointing::Known(Pointer::At(Address(5))),
+            data: Single::Known(segment_knowledge::WRITE_DISPLAY),
+            stepping: Single::Known(segment_knowledge::INCREMENT),
+            mode: Single::Known(3),
+            dimming: Single::Known(5),
+            display: Single::Known(segment_knowledge::ON),
+            led: 0x0F09,
+            keys: [0xA1, 0xA2, 0xA3, 0xA4],
+            switches: Single::Known(6),
+            count: Single::Known(2),
+            position: Single::Known(segment_knowledge::OPEN),
+        },
+    }
+}
+
+fn character_known() -> character_knowledge::Knowledge {
+    character_knowledge::Knowledge {
+        dcram: [0xFF6E; 16],
+        cgram: [0x7F6E; 40],
+        adram: [0x0302; 16],
+        control: OfCharacter {
+            dcram_at: character_knowledge::Pointing::Known(Address(5)),
+            cgram_at: character_knowledge::Pointing::Known(Address(6)),
+            adram_at: character_knowledge::Pointing::Known(Address(7)),
+            column: Single::Known(3),
+            port: 0x0302,
+            duty: Single::Known(5),
+            digits: Single::Known(4),
+            lights: Single::Known(character_knowledge::ON),
+            position: Single::Known(character_knowledge::DCRAM),
+        },
+    }
 }

@@ -1,14 +1,12 @@
-// What the programs that run examples share: lines of hex and words are read, and words and numbers are written.
+// What the programs that run examples share: their input is read, lines of hex and words in it, and rows of bytes are written.
 #![tactic(auto)]
 
-mod facts;
+mod hex;
 mod line;
-mod parts;
-mod print;
+mod program;
 mod word;
 
-pub use facts::show_facts;
+pub use hex::Hex;
 pub use line::Line;
-pub use parts::part;
-pub use print::{bytes, character, comma, decimal, hex, number, spaced, text};
-pub use word::Word;
+pub use program::run_examples;
+pub use word::{INVALID, UNKNOWN, Word};

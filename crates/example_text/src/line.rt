@@ -4,70 +4,67 @@ use terms::Event;
 
 #[derive(Clone, Copy)]
 pub struct Line {
-    pub part: u8,
-    // Whether the part byte was read.
-    begun: bool,
-    // Whether a record ended with what was read last.
-    pub whole: bool,
-    kind: u8,
-    // How many bytes of the body are still to come, and those that came.
-    left: u8,
-    b0: u8,
-    b1: u8,
-    b2: u8,
-    b3: u8,
+    // The part byte, once it was read.
+    pub part: Option<u8>,
+    // The kind of the record that is not whole yet, and how many bytes of its body are still to come.
+    begun: Option<(u8, u8)>,
+    // The last bytes that stood in a body.
+    body: [u8; 4],
 }
 
 impl Line {
     // A line of which nothing was read.
     pub fn new() -> Line {
         Line {
-            part: 0,
-            begun: false,
-            whole: false,
-            kind: 0,
-            left: 0,
-            b0: 0,
-            b1: 0,
-            b2: 0,
-            b3: 0,
+            part: None,
+            begun: None,
+            body: [0; 4],
         }
     }
 
-    // The line with one more byte.
-    pub fn with_byte(mut self, byte: u8) -> Line {
-        if !self.begun {
-            self.part = byte;
-            self.begun = true;
-            return self;
+    // A line of which the part byte was read.
+    pub fn behind(part: u8) -> Line {
+        Line {
+            part: Some(part),
+            ..Line::new()
         }
-        if self.left == 0 {
-            self.kind = byte;
-            self.left = body_of(byte);
-        } else {
-            self.left -= 1;
-            self.b0 = self.b1;
-            self.b1 = self.b2;
-            self.b2 = self.b3;
-            self.b3 = byte;
-        }
-        self.whole = self.left == 0;
-        self
     }
 
-    // The event of the record that ended last.
-    pub fn event(self) -> Event {
-        let kind = self.kind;
-        match kind {
-            1 => Event::Power,
-            2 => Event::Falls,
-            3 => Event::ByteIn(self.b3),
-            4 => Event::Rises,
-            6 => Event::Unfinished(self.b3),
-            7 => Event::Keys(self.b0, self.b1, self.b2, self.b3),
-            8 => Event::Switches(self.b3),
-            9 => Event::ByteOut,
-            _ => Event::Gap,
+    // Reads one more byte, and gives the event of the record that it ends.
+    pub fn read(&mut self, byte: u8) -> Option<Event> {
+        if self.part.is_none() {
+            self.part = Some(byte);
+            return None;
         }
+        let (kind, left) = match self.begun {
+            None => (byte, body_of(byte)),
+            Some((kind, left)) => {
+                let [_, b, c, d] = self.body;
+                self.body = [b, c, d, byte];
+                (kind, left.saturating_sub(1))
+            }
+        };
+        if left == 0 {
+            self.begun = None;
+            return Some(event_of(kind, self.body));
+        }
+        self.begun = Some((kind, left));
+        None
+    }
+}
+
+// The event of a record: a body stands at the end of those bytes.
+fn event_of(kind: u8, body: [u8; 4]) -> Event {
+    let [a, b, c, d] = body;
+    match kind {
+        1 => Event::Power,
+        2 => Event::Falls,
+        3 => Event::ByteIn(d),
+        4 => Event::Rises,
+        6 => Event::Unfinished(d),
+        7 => Event::Keys(a, b, c, d),
+        8 => Event::Switches(d),
+        9 => Event::ByteOut,
+        _ => Event::Gap,
     }
 }

@@ -1,16 +1,14 @@
 -- A row of the table, and what it states. A row names its example by number. It is a recording, replayed from what is known before, with its number and place and
 -- what is known afterwards; or a picture, painted over an output, with its number and place and the output afterwards.
-use Rattle.std.specs.Prelude.{ℕ, ◌≡◌, List, [], ◌∷◌, map, length}
+use Rattle.std.specs.Prelude.{ℕ, ◌≡◌, List, [], ◌∷◌, map, length, Ok, Err}
 use Rattle.knowing.specs.Standing.{Standing, unknown}
 use Rattle.knowing.specs.Know.{know}
 use Rattle.knowing.specs.Turn.{in_turn}
 use Rattle.terms.specs.declared.Event.{Event}
 use Rattle.terms.specs.declared.Part.{Part}
 use Rattle.terms.specs.declared.Part.TheVariants.{Pt6302, Pt6312, Pt6315}
-use Rattle.recording.specs.Walk.{walked, events, end_of}
+use Rattle.recording.specs.Walk.{walked, events, end_of, Ending, stop_of}
 use Rattle.recording.specs.Record as Record
-use Rattle.recording.specs.declared.Ending.{Ending}
-use Rattle.recording.specs.declared.Ending.TheVariants.{Done, Stops}
 use Rattle.segment.specs.declared.Family.{Family}
 use Rattle.segment.specs.declared.Family.TheVariants as OfFamily
 use Rattle.segment.specs.Family.{sizes}
@@ -55,7 +53,7 @@ given ((v is s) ∷ before) w = elim (What-discrete Segment.same? Character.same
 
 -- The events that count: a refused replay returns the knowledge it was given.
 abbrev heard : Part → List ℕ → List Event
-heard p l = elim (end_of (walked p l)) [ Done ↦ events (walked p l) | Stops r at ↦ [] ]
+heard p l = elim (end_of (walked p l)) [ Ok u ↦ events (walked p l) | Err s ↦ [] ]
 
 abbrev segment_after : Part → List Said → List ℕ → Segment.Fact → Standing
 segment_after p before l = in_turn Segment.same? (Segment.range (sizes (family p))) (map (SegmentMove.move (sizes (family p))) (heard p l)) (λ f. given before (fact f))
@@ -71,12 +69,12 @@ known_after p before l next = know Segment.same? (Segment.range (sizes (family p
 
 -- Paper 01's number and place for how the records end.
 abbrev end_number : Ending → ℕ
-end_number Done = 0
-end_number (Stops r at) = Record.number r
+end_number (Ok u) = 0
+end_number (Err s) = Record.number s.refusal
 
 abbrev end_place : ℕ → Ending → ℕ
-end_place n Done = n
-end_place n (Stops r at) = at.0
+end_place n (Ok u) = n
+end_place n (Err s) = s.at.0
 
 abbrev pub read_number : Part → List ℕ → ℕ
 read_number p l = end_number (end_of (walked p l))

@@ -6,59 +6,44 @@ ghost use Rattle.knowing.specs.Standing.{Within};
 ghost use Rattle.knowing.specs.Know.{join};
 ghost use Rattle.knowing.specs.Holds.{is_known};
 ghost use Rattle.rules.specs.Tests.{Tests};
-ghost use Rattle.fact.specs.View.{stands};
+ghost use Rattle.fact.specs.View.{standing};
 
-use terms::Address;
+use terms::Value;
 
-// Known, with its value's number, or unknown.
-#[derive(Clone, Copy)]
-pub enum Single {
-    Known(u8),
-    Unknown,
-}
-
-// The same of an address that is always a cell, as those of PT6302 are.
-#[derive(Clone, Copy)]
-pub enum Pointing {
-    At(Address),
+// Known, with its value, or unknown. It is no `Option`: every event matches what is known by these names, as the paper of rules has it.
+#[derive(Clone, Copy, Debug, PartialEq, Eq)]
+pub enum Single<T> {
+    Known(T),
     Unknown,
 }
 
 // What two single facts have in common.
-pub fn both_singles(a: Single, b: Single) -> Single
-    ensures { stands result ≡ join (stands a) (stands b) }
+#[tactic(auto, unfolding(knowing::specs::Know::join, knowing::specs::Know::kept_if))]
+pub fn both<T: Value>(a: Single<T>, b: Single<T>) -> Single<T>
+    ensures { standing T.number result ≡ join (standing T.number a) (standing T.number b) }
 {
-    match a {
-        Single::Known(v) => match b {
-            Single::Known(w) => {
-                if v == w {
-                    Single::Known(v)
-                } else {
-                    Single::Unknown
-                }
-            }
-            Single::Unknown => Single::Unknown,
-        },
-        Single::Unknown => Single::Unknown,
+    match (a, b) {
+        (Single::Known(v), Single::Known(w)) if v.is(w) => Single::Known(v),
+        _ => Single::Unknown,
     }
 }
 
 // The fact is known to be v.
-pub fn is_known(s: Single, v: u8) -> bool
-    ensures { result ≡ is_known (stands s) v }
+pub fn is_known<T: Value>(s: Single<T>, v: T) -> bool
+    ensures { result ≡ is_known (standing T.number s) (T.number v) }
 {
     match s {
-        Single::Known(w) => w == v,
+        Single::Known(w) => w.is(v),
         Single::Unknown => false,
     }
 }
 
-// What is known is below the limit. Whatever it is, it is a byte.
-pub fn within(s: Single, limit: u8) -> bool
-    ensures { (Tests result (Within limit (stands s))) × (Within 256 (stands s)) }
+// What is known is below the limit. Whatever it is, it has room among the values of its type.
+pub fn within<T: Value>(s: Single<T>, limit: u16) -> bool
+    ensures { (Tests result (Within limit (standing T.number s))) × (Within T.room (standing T.number s)) }
 {
     match s {
-        Single::Known(v) => v < limit,
+        Single::Known(v) => v.as_number() < limit,
         Single::Unknown => true,
     }
 }

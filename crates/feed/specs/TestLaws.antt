@@ -10,11 +10,11 @@ use Rattle.feed.specs.Tests.{Tested}
 
 module _ (p : Part) (s : Feed) (n : ℕ) (R : ℕ → ℕ → Type 0) {P : Type 0} where
   pub tested_map : (S : ℕ → ℕ → Type 0) {Q : Type 0} → ((m at : ℕ) → R m at → S m at) → (P → Q) → Tested p s n R P → Tested p s n S Q
-  tested_map S f h t = where_map (admitted_map s.total n R S f h s.kept) (f 2 0) t
+  tested_map S f h t = where_map (admitted_map s.account.total n R S f h s.account.kept) (f 2 0) t
 
   -- Refused by none of them.
-  pub tests_passed : ((m at : ℕ) → R m at → ⊥) → Tested p s n R P → Good p s × Fits s.total n × P
+  pub tests_passed : ((m at : ℕ) → R m at → ⊥) → Tested p s n R P → Good p s × Fits s.account.total n × P
   tests_passed never t =
       let (good, rest) = where_not (never 2 0) t in
-      let (fits, passed) = admitted_passed s.total n R never s.kept rest in
+      let (fits, passed) = admitted_passed s.account.total n R never s.account.kept rest in
       (good, fits, passed)

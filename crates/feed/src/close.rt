@@ -5,27 +5,21 @@ ghost use Rattle.feed.specs.Close.{Closes, ClosesPart};
 use crate::Feed;
 use crate::tests::is_good;
 use account_tests::closing;
-use answers::Answer;
-use terms::{Part, PartRead, Place, part_of};
+use answers::{Answer, Refused};
+use terms::{Part, Place};
 
 pub fn closed(part: u8, feed: Feed) -> Answer
     ensures { Closes (part_of part) feed result }
 {
-    let read = part_of(part);
-    match read {
-        PartRead::Is(is) => closed_by(is, feed),
-        PartRead::Refused(at) => Answer::NoPart(at),
-    }
+    closed_by(Part::try_from(part)?, feed)
 }
 
 fn closed_by(part: Part, feed: Feed) -> Answer
     ensures { ClosesPart part feed result }
 {
     if is_good(part, feed) {
-        let unfinished = feed.unfinished;
-        let kept = feed.kept;
-        closing(unfinished, feed.total, kept)
+        closing(feed.account)
     } else {
-        Answer::OutOfRange(Place(0))
+        Err(Refused::OutOfRange(Place(0)))
     }
 }

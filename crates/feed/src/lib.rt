@@ -7,19 +7,17 @@ mod tests;
 ghost use Rattle.std.specs.Prelude.{◌≡◌};
 ghost use Rattle.feed.specs.Feed.{opening};
 
-pub use account::{Kept, Unfinished};
-pub use answers::Answer;
+pub use account::{Account, Unfinished};
+pub use answers::{Answer, Refused};
 pub use close::closed;
 use panel::Panel;
 pub use tests::tried;
 
-// The knowledge after the last good record, the bytes of a record that is not whole yet, the number of all bytes so far, and the standing refusal.
+// The knowledge after the last good record, and what is kept of the recording.
 #[derive(Clone, Copy)]
 pub struct Feed {
     pub panel: Panel,
-    pub unfinished: Unfinished,
-    pub total: u32,
-    pub kept: Kept,
+    pub account: Account,
 }
 
 // Before the first packet, from any knowledge.
@@ -28,8 +26,10 @@ pub fn opened(panel: Panel) -> Feed
 {
     Feed {
         panel,
-        unfinished: Unfinished::None,
-        total: 0,
-        kept: Kept::None,
+        account: Account {
+            unfinished: Unfinished::None,
+            total: 0,
+            kept: None,
+        },
     }
 }

@@ -6,18 +6,17 @@ ghost use Rattle.feed.specs.Tests.{Tries};
 use crate::Feed;
 use account_fair::is_fair;
 use account_tests::admitted;
-use answers::{Answer, Trial};
+use answers::{Answer, Refused};
 use panel_ranges::in_range;
 use terms::{Part, Place};
 
-pub fn tried(part: Part, feed: Feed, length: usize) -> Trial
+pub fn tried(part: Part, feed: Feed, length: usize) -> Result<(), Answer>
     ensures { Tries part feed length result }
 {
     if is_good(part, feed) {
-        let kept = feed.kept;
-        admitted(kept, feed.total, length)
+        admitted(feed.account, length)
     } else {
-        Trial::Refused(Answer::OutOfRange(Place(0)))
+        Err(Err(Refused::OutOfRange(Place(0))))
     }
 }
 
@@ -25,12 +24,5 @@ pub fn tried(part: Part, feed: Feed, length: usize) -> Trial
 pub fn is_good(part: Part, feed: Feed) -> bool
     ensures { Tests result (Good part feed) }
 {
-    let panel = feed.panel;
-    if in_range(part, panel) {
-        let unfinished = feed.unfinished;
-        let kept = feed.kept;
-        is_fair(part, unfinished, feed.total, kept)
-    } else {
-        false
-    }
+    in_range(part, &feed.panel) && is_fair(part, feed.account)
 }

@@ -11,7 +11,7 @@ pub data Said : Type 0 where
 
 -- As the code has it: a sign, true below nought, and how many half degrees.
 abbrev pub said : Field → Said
-said (Reads below n) = reading (signed below n)
+said (Reads halves) = reading (signed halves.negative halves.size)
 said NoReading = no_reading
 said Dark = dark
 said Unknown = unknown

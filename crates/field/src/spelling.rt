@@ -3,6 +3,8 @@ ghost use Rattle.std.specs.Prelude.{◌≡◌, ◌≤◌};
 ghost use Rattle.field.specs.Field.{is_digit, all_dashes, is_number, digit_in, half_in, size_of, spelled as field_spelled};
 ghost use Rattle.field.specs.Said.{said};
 
+use half_degrees::Halves;
+
 // Five cells in a row.
 #[derive(Clone, Copy)]
 pub struct Five {
@@ -16,8 +18,7 @@ pub struct Five {
 // What is told of a field.
 #[derive(Clone, Copy)]
 pub enum Field {
-    // So many half degrees, below nought or not.
-    Reads(bool, u8),
+    Reads(Halves),
     NoReading,
     Dark,
     Unknown,
@@ -37,7 +38,10 @@ pub fn spelled(five: Five) -> Field
         return Field::NoReading;
     }
     if is_number(five) {
-        Field::Reads(five.sign == MINUS, size_of(five))
+        Field::Reads(Halves {
+            negative: five.sign == MINUS,
+            size: size_of(five),
+        })
     } else {
         Field::NotAReading
     }

@@ -9,7 +9,7 @@ use character_knowledge::{OFF, ON};
 use fact::{Single, is_known};
 use terms::Address;
 
-pub fn is_dark(lights: Single, digits: Single, start: Address) -> bool
+pub fn is_dark(lights: Single<u8>, digits: Single<u8>, start: Address) -> bool
     ensures { result ≡ is_dark (stands lights) (stands digits) start.0 }
 {
     if is_known(lights, OFF) {
@@ -22,7 +22,7 @@ pub fn is_dark(lights: Single, digits: Single, start: Address) -> bool
 }
 
 // The last cell stands on digit start plus 5.
-fn reaches_past(digits: Single, start: Address) -> bool
+fn reaches_past(digits: Single<u8>, start: Address) -> bool
     ensures { result ≡ reaches_past (stands digits) start.0 }
 {
     match digits {

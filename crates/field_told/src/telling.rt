@@ -8,12 +8,12 @@ ghost use Rattle.field_told.specs.Laws.{either_unknown};
 
 use fact::Single;
 use field::{Field, spelled};
-use field_cells::{Row, five_at};
+use field_cells::five_at;
 use field_dark::is_dark;
 use terms::Address;
 
 // Dark is tested first, then whether all is known, then what the cells spell.
-pub fn tell(lights: Single, digits: Single, dcram: [u16; 16], start: Address) -> Field
+pub fn tell(lights: Single<u8>, digits: Single<u8>, dcram: [u16; 16], start: Address) -> Field
     requires { start.0 ≤ 11 }
     ensures { said result ≡ told (stands lights) (stands digits) (byte_at dcram) start.0 }
 {
@@ -26,19 +26,16 @@ pub fn tell(lights: Single, digits: Single, dcram: [u16; 16], start: Address) ->
         return Field::Unknown;
     }
     match five_at(dcram, start) {
-        Row::Known(five) => spelled(five),
-        Row::Unknown => Field::Unknown,
+        Some(five) => spelled(five),
+        None => Field::Unknown,
     }
 }
 
-fn either_unknown(lights: Single, digits: Single) -> bool
+fn either_unknown(lights: Single<u8>, digits: Single<u8>) -> bool
     ensures { result ≡ either_unknown (stands lights) (stands digits) }
 {
-    if let Single::Unknown = lights {
-        return true;
+    match (lights, digits) {
+        (Single::Known(_), Single::Known(_)) => false,
+        _ => true,
     }
-    if let Single::Unknown = digits {
-        return true;
-    }
-    false
 }

@@ -5,27 +5,37 @@ ghost use Rattle.std.specs.Prelude.{◌≡◌, false};
 ghost use Rattle.std.specs.Float.Ieee.Exact.{HasValue};
 ghost use Rattle.half_degrees.specs.Half.{signed, InHalves, Halved, Counted};
 
-// So many half degrees, below nought or not, as degrees. Minus nought is plain nought, which taking from nought makes of itself.
-pub fn degrees(negative: bool, halves: u8) -> f32
-    ensures { InHalves result (signed negative halves) }
-{
-    let size = halves as f32 * 0.5;
-    if negative { 0.0 - size } else { size }
+// Half degrees: below nought or not, and how many.
+#[derive(Clone, Copy, Debug, PartialEq, Eq)]
+pub struct Halves {
+    pub negative: bool,
+    pub size: u8,
 }
 
-// Below nought or not, and how many half degrees.
-#[derive(Clone, Copy)]
-pub struct Halves(pub bool, pub u8);
+// So many half degrees as degrees. Minus nought is plain nought, which taking from nought makes of itself.
+pub fn degrees(halves: Halves) -> f32
+    ensures { InHalves result (signed halves.negative halves.size) }
+{
+    let size = halves.size as f32 * 0.5;
+    if halves.negative { 0.0 - size } else { size }
+}
 
 // The sign of a float that is some half degrees, and how many it is.
+// What may not change: `Half.Halved` is true of nought with either sign, so in two ways, and a type keeps only what is true in one: each function asks for it.
 pub fn halves_of(degrees: f32) -> Halves
     requires { Halved degrees }
-    ensures { HasValue degrees result.0 result.1 2 }
+    ensures { HasValue degrees result.negative result.size 2 }
 {
     if degrees < 0.0 {
-        return Halves(true, doubled(0.0 - degrees));
+        return Halves {
+            negative: true,
+            size: doubled(0.0 - degrees),
+        };
     }
-    Halves(false, doubled(degrees))
+    Halves {
+        negative: false,
+        size: doubled(degrees),
+    }
 }
 
 // The double of a float that is some number of half degrees, none below nought.

@@ -1,10 +1,9 @@
 -- The whole answer to one event: paper 01's number and place, and the knowledge, done or refused.
-use Rattle.std.specs.Prelude.{ℕ, zero, suc, ◌≡◌}
+use Rattle.std.specs.Prelude.{ℕ, zero, suc, ◌≡◌, Ok, Err}
 use Rattle.knowing.specs.Ways.{Knows}
 use Rattle.terms.specs.declared.Event.{Event}
 use Rattle.terms.specs.declared.Part.{Part}
-use Rattle.terms.specs.declared.PartRead.{PartRead}
-use Rattle.terms.specs.declared.PartRead.TheVariants.{Is, Refused}
+use Rattle.terms.specs.Part.{PartRead}
 use Rattle.parts.specs.Facts.{same?, range, move}
 use Rattle.panel.specs.declared.Panel.{Panel}
 use Rattle.hearing_answer.specs.Answer.{number, place, Answered}
@@ -38,5 +37,5 @@ HearsPart p e k r = Answered p e k (λ n. HeardBy n p e k r)
 
 -- Number 1 exactly where the part byte names no part, before anything else is looked at.
 abbrev pub Hears : PartRead → Event → Panel → Heard → Type 0
-Hears (Is p) e k r = HearsPart p e k r
-Hears (Refused at) e k r = RefusedBy 1 k r
+Hears (Ok p) e k r = HearsPart p e k r
+Hears (Err x) e k r = RefusedBy 1 k r

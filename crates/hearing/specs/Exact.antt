@@ -1,7 +1,7 @@
 -- Demand 3 for one event, in the paper's words and as a caller has it: of the part byte, the promise of `hear`, and
 -- number 0. The argument: number 0 is given only where the knowledge is in range and the event is heard, and then the
 -- answer is what the event's rule makes of the knowledge, which `knowing` shows to be exact.
-use Rattle.std.specs.Prelude.{ℕ, zero, suc, ◌≡◌, List}
+use Rattle.std.specs.Prelude.{ℕ, zero, suc, ◌≡◌, List, Ok}
 use Rattle.std.proofs.Common.{arith, sym, ◌∙◌, subst}
 use Rattle.rules.specs.Rule.{Rule}
 use Rattle.rules.specs.Turn.{Result}
@@ -13,14 +13,11 @@ use Rattle.knowing.specs.Moves.{AllHave}
 use Rattle.knowing.specs.Event.{event_exact, event_fits, event_sound}
 use Rattle.terms.specs.declared.Event.{Event}
 use Rattle.terms.specs.declared.Part.{Part}
-use Rattle.terms.specs.declared.PartRead.TheVariants.{Is}
 use Rattle.terms.specs.Event.{Bytes}
 use Rattle.terms.specs.Part.{part_of}
 use Rattle.parts.specs.Facts.{Fact, same?, range, move}
 use Rattle.parts.specs.Laws.{two, ranged}
-use Rattle.recording.specs.declared.Read.{Read}
-use Rattle.recording.specs.declared.Read.TheVariants as Reads
-use Rattle.recording.specs.Record.{front}
+use Rattle.recording.specs.Record.{front, Read, record_of}
 use Rattle.carrying.specs.Again.{read_again}
 use Rattle.panel.specs.declared.Panel.{Panel}
 use Rattle.hearing.specs.declared.events.Heard.{Heard}
@@ -35,13 +32,13 @@ abbrev pub AllHaveByte : {F : Type 0} → (F → ℕ) → Rule F F → (F → St
 AllHaveByte {F} range rule k bits w byte =
     (c : F → ℕ) → Good range c → Fits k c → (x : F → ℕ) → Result range rule c x → HasByte w (λ j. x (bits j)) byte
 
-module _ (b : ℕ) (p : Part) (named : part_of b ≡ Is p) (e : Event) (k : Panel) (r : Heard)
+module _ (b : ℕ) (p : Part) (named : part_of b ≡ Ok p) (e : Event) (k : Panel) (r : Heard)
     (met : Hears (part_of b) e k r) where
   of_part : HearsPart p e k r
-  of_part = hears_as (part_of b) (Is p) e k r named met
+  of_part = hears_as (part_of b) (Ok p) e k r named met
 
   -- An event that was read from a recording of the part is done, where every known value is in its range.
-  pub recorded_heard : (l : List ℕ) (m : ℕ) → front p l ≡ Reads.Is e m → Sound (range p) (known_of p k)
+  pub recorded_heard : (l : List ℕ) (m : ℕ) → front p l ≡ Ok (record_of e m) → Sound (range p) (known_of p k)
       → number r.answer ≡ 0
   recorded_heard l m q s =
       let d : EventDone p e k r = subst (λ (x : Read). HeardBy (record_number x) p e k r) (read_again p l e m q) (where_good s of_part) in

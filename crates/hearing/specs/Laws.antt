@@ -5,7 +5,7 @@ use Rattle.std.proofs.Common.{arith, sym, ◌∙◌, subst}
 use Rattle.rules.specs.Where.{where_map}
 use Rattle.terms.specs.declared.Event.{Event}
 use Rattle.terms.specs.declared.Part.{Part}
-use Rattle.terms.specs.declared.PartRead.{PartRead}
+use Rattle.terms.specs.Part.{PartRead}
 use Rattle.segment.specs.declared.Family.{Family}
 use Rattle.segment.specs.declared.Family.TheVariants.{Pt6312, Pt6315}
 use Rattle.segment.specs.Family.{sizes}
@@ -13,8 +13,7 @@ use Rattle.segment.specs.Move as SegmentMove
 use Rattle.segment_knowledge.specs.View as OfSegment
 use Rattle.parts.specs.Kind.{in_family}
 use Rattle.panel.specs.declared.Panel.{Panel}
-use Rattle.hearing_answer.specs.declared.Answer.{Answer}
-use Rattle.hearing_answer.specs.Answer.{number, Numbered, event_number, Answers}
+use Rattle.hearing_answer.specs.Answer.{Answer, number, Numbered, event_number, Answers}
 use Rattle.hearing.specs.declared.events.Heard.{Heard}
 use Rattle.hearing.specs.Event.{After, HeardBy, HearsPart, Hears}
 

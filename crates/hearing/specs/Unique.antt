@@ -1,36 +1,34 @@
 -- Two answers that meet a promise are equal. The argument: the number and place fix the answer, and what is known of
 -- every fact fixes the knowledge.
-use Rattle.std.specs.Prelude.{ℕ, zero, suc, ◌≡◌, refl, eqb}
+use Rattle.std.specs.Prelude.{ℕ, zero, suc, ◌≡◌, refl, eqb, Ok, Err}
 use Rattle.std.proofs.Common.{sym, ◌∙◌}
 use Rattle.rules.specs.Choice.{whether}
 use Rattle.terms.specs.declared.Event.{Event}
 use Rattle.terms.specs.declared.Place.{Place}
 use Rattle.terms.specs.declared.Part.{Part}
-use Rattle.terms.specs.declared.PartRead.{PartRead}
-use Rattle.terms.specs.declared.PartRead.TheVariants.{Is as IsPart, Refused}
+use Rattle.terms.specs.Part.{PartRead}
 use Rattle.panel.specs.declared.Panel.{Panel}
-use Rattle.hearing_answer.specs.declared.Answer.{Answer}
-use Rattle.hearing_answer.specs.declared.Answer.TheVariants as A
+use Rattle.hearing_answer.specs.declared.Refused.TheVariants as R
 use Rattle.hearing.specs.declared.events.Heard.{Heard}
 use Rattle.panel.specs.Unique.{Shaped, same_panel}
 use Rattle.rules.specs.Where.{where_both}
-use Rattle.hearing_answer.specs.Answer.{number, place, event_number}
+use Rattle.hearing_answer.specs.Answer.{Answer, number, place, event_number}
 use Rattle.hearing.specs.Event.{RefusedBy, EventDone, HeardBy, Hears}
 
 -- The answer with a number and a place, and that every answer is the one with its own.
 abbrev back : ℕ → Place → Answer
 back n at =
-    whether (eqb n 0) A.Done
-    (whether (eqb n 1) (A.NoPart at)
-    (whether (eqb n 2) (A.OutOfRange at)
-    (whether (eqb n 6) (A.Foreign at) (A.Forbidden at))))
+    whether (eqb n 0) (Ok tt)
+    (whether (eqb n 1) (Err (R.NoPart at))
+    (whether (eqb n 2) (Err (R.OutOfRange at))
+    (whether (eqb n 6) (Err (R.Foreign at)) (Err (R.Forbidden at)))))
 
 read_back : (a : Answer) → back (number a) (record { 0 = place a }) ≡ a
-read_back A.Done = refl
-read_back (A.NoPart at) = refl
-read_back (A.OutOfRange at) = refl
-read_back (A.Foreign at) = refl
-read_back (A.Forbidden at) = refl
+read_back (Ok done) = refl
+read_back (Err (R.NoPart at)) = refl
+read_back (Err (R.OutOfRange at)) = refl
+read_back (Err (R.Foreign at)) = refl
+read_back (Err (R.Forbidden at)) = refl
 
 same_heard : (r q : Heard) → number r.answer ≡ number q.answer → place r.answer ≡ place q.answer
     → r.panel ≡ q.panel → r ≡ q
@@ -55,5 +53,5 @@ module _ (e : Event) (k : Panel) (r q : Heard) (sr : Shaped r.panel) (sq : Shape
 
   -- Two answers to one event are one.
   pub one_heard : (p : PartRead) → Hears p e k r → Hears p e k q → r ≡ q
-  one_heard (IsPart p) h g = where_both (one_by (event_number p e) p) (one_by 2 p) h g
-  one_heard (Refused at) h g = one_refusal 1 k r q h g
+  one_heard (Ok p) h g = where_both (one_by (event_number p e) p) (one_by 2 p) h g
+  one_heard (Err e) h g = one_refusal 1 k r q h g

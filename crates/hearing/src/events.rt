@@ -3,9 +3,9 @@ ghost use Rattle.terms.specs.Part.{part_of};
 ghost use Rattle.hearing.specs.Event.{Hears, HearsPart};
 
 use crate::halves::after;
-use hearing_answer::{Answer, answer_to, is_done};
+use hearing_answer::{Answer, Refused, answer_to};
 use panel::Panel;
-use terms::{Event, Part, PartRead, part_of};
+use terms::{Event, NoPart, Part};
 
 // The answer, and the knowledge: after the event where it is done, else as it was handed in.
 #[derive(Clone, Copy)]
@@ -17,11 +17,10 @@ pub struct Heard {
 pub fn hear(part: u8, panel: Panel, event: Event) -> Heard
     ensures { Hears (part_of part) event panel result }
 {
-    let read = part_of(part);
-    match read {
-        PartRead::Is(is) => heard_by(is, panel, event),
-        PartRead::Refused(at) => Heard {
-            answer: Answer::NoPart(at),
+    match Part::try_from(part) {
+        Ok(part) => heard_by(part, panel, event),
+        Err(NoPart(at)) => Heard {
+            answer: Err(Refused::NoPart(at)),
             panel,
         },
     }
@@ -31,7 +30,7 @@ fn heard_by(part: Part, panel: Panel, event: Event) -> Heard
     ensures { HearsPart part event panel result }
 {
     let answer = answer_to(part, panel, event);
-    if is_done(answer) {
+    if answer.is_ok() {
         Heard {
             answer,
             panel: after(part, panel, event),

@@ -2,13 +2,13 @@
 ghost use Rattle.hearing.specs.Event.{After};
 
 use panel::{Panel, with_character, with_segment};
-use parts::{Kind, kind_of};
+use parts::Kind;
 use terms::{Event, Part};
 
 pub fn after(part: Part, panel: Panel, event: Event) -> Panel
     ensures { After part event panel result }
 {
-    match kind_of(part) {
+    match Kind::from(part) {
         Kind::Character => {
             let k = panel.character;
             with_character(panel, character_known::moved(k, event))

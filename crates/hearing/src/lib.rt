@@ -5,4 +5,4 @@ mod events;
 mod halves;
 
 pub use events::{Heard, hear};
-pub use hearing_answer::Answer;
+pub use hearing_answer::{Answer, Refused};

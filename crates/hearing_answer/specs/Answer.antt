@@ -1,35 +1,44 @@
 -- The answer to one event: paper 01's number and place.
-use Rattle.std.specs.Prelude.{ℕ, ◌≡◌}
+use Rattle.std.specs.Prelude.{ℕ, ◌≡◌, Result, Ok, Err}
 use Rattle.knowing.specs.Standing.{Sound}
 use Rattle.terms.specs.declared.Event.{Event}
 use Rattle.terms.specs.declared.Part.{Part}
 use Rattle.terms.specs.Event.{recorded}
 use Rattle.parts.specs.Facts.{range}
-use Rattle.recording.specs.declared.Read.{Read}
-use Rattle.recording.specs.declared.Read.TheVariants.{Is, Refused}
 use Rattle.recording.specs.Record as Record
-use Rattle.recording.specs.Record.{front}
+use Rattle.recording.specs.Record.{front, Read}
 use Rattle.panel.specs.declared.Panel.{Panel}
 use Rattle.rules.specs.Where.{Where}
 use Rattle.panel.specs.View.{known_of}
-use Rattle.hearing_answer.specs.declared.Answer.{Answer}
-use Rattle.hearing_answer.specs.declared.Answer.TheVariants.{Done, NoPart, OutOfRange, Foreign, Forbidden}
+use Rattle.carrying.specs.declared.carried.Uncarried.{Uncarried}
+use Rattle.carrying.specs.declared.carried.Uncarried.TheVariants as U
+use Rattle.hearing_answer.specs.declared.Refused.{Refused}
+use Rattle.hearing_answer.specs.declared.Refused.TheVariants.{NoPart, OutOfRange, Foreign, Forbidden}
+
+-- Done, or refused.
+abbrev pub Answer : Type 0
+Answer = Result Unit Refused
 
 -- Paper 01's number for each case, and its place: one event is no recording, so that there is no length to give, and
 -- every place is 0.
 abbrev pub number : Answer → ℕ
-number Done = 0
-number (NoPart at) = 1
-number (OutOfRange at) = 2
-number (Foreign at) = 6
-number (Forbidden at) = 8
+number (Ok done) = 0
+number (Err (NoPart at)) = 1
+number (Err (OutOfRange at)) = 2
+number (Err (Foreign at)) = 6
+number (Err (Forbidden at)) = 8
 
 abbrev pub place : Answer → ℕ
-place Done = 0
-place (NoPart at) = at.0
-place (OutOfRange at) = at.0
-place (Foreign at) = at.0
-place (Forbidden at) = at.0
+place (Ok done) = 0
+place (Err (NoPart at)) = at.0
+place (Err (OutOfRange at)) = at.0
+place (Err (Foreign at)) = at.0
+place (Err (Forbidden at)) = at.0
+
+-- What no recording can carry, refused.
+abbrev pub refused_as : Uncarried → Refused
+refused_as U.Foreign = Foreign (record { 0 = 0 })
+refused_as U.Forbidden = Forbidden (record { 0 = 0 })
 
 -- The number n, at place 0.
 pub record Numbered (n : ℕ) (a : Answer) : Type 0 where
@@ -38,8 +47,8 @@ pub record Numbered (n : ℕ) (a : Answer) : Type 0 where
 
 -- The number that a record gets as it is read: 0 where it is one, else its refusal's.
 abbrev pub record_number : Read → ℕ
-record_number (Is x m) = 0
-record_number (Refused x) = Record.number x
+record_number (Ok it) = 0
+record_number (Err x) = Record.number x
 
 -- An event is tested as its own record is.
 abbrev pub event_number : Part → Event → ℕ

@@ -1,3 +1,4 @@
 pub mod Reading
 pub mod Bytes
 pub mod Laws
+pub mod Program

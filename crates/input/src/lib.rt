@@ -2,10 +2,12 @@
 #![tactic(auto)]
 
 mod failing;
+mod program;
 mod reading;
 mod stream;
 
 pub use failing::failed;
+pub use program::{run_on, status_of};
 pub use read_answer::Input;
 pub use reading::read_input;
 pub use stream::Stream;

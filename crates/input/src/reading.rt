@@ -1,15 +1,13 @@
 // Reading to the end of the input, or until the buffer is full.
-ghost use Rattle.std.specs.Prelude.{◌≡◌, ◌≢◌, ◌<◌, length, pos};
-ghost use Rattle.std.specs.IoError.{error_kind};
+ghost use Rattle.std.specs.Prelude.{◌<◌, length};
 ghost use Rattle.input.specs.Reading.{Goes, Reads};
 ghost use Rattle.input.specs.Bytes.{Gives, Hands};
 
-use read_answer::{EINTR, Input, Next, told};
-use std::io;
-use std::io::{ErrorKind, Read};
+use read_answer::{Input, Next, told};
+use std::io::Read;
 
 // Reads a stream into a buffer. An interrupted call is made again: a proved loop has to end, so these are counted down from a number that no run
-// uses up.
+// uses up. The loop goes on by as many bytes as a call gave, which no `for` over the buffer does.
 pub fn read_input<R: Read>(stream: &mut R, buffer: &mut [u8]) -> Input
     ensures reads { Reads buffer.old result buffer.new }
     ensures bytes { Gives (R.remaining stream.old) (R.remaining stream.new) result buffer.new }
@@ -37,21 +35,8 @@ fn read_on<R: Read>(stream: &mut R, buffer: &mut [u8], before: usize) -> Next
     ensures goes { Goes buffer.old before result buffer.new }
     ensures bytes { Hands (R.remaining stream.old) (R.remaining stream.new) before result buffer.new }
 {
-    let (answer, error) = match stream.read(&mut buffer[before..]) {
-        Ok(n) => (n as isize, 0),
-        Err(e) => (-1, errno_of(e)),
-    };
-    told(answer, error, before)
-}
-
-// Of a stream's errors only an interruption is told from the others.
-fn errno_of(error: io::Error) -> i32
-    ensures interrupted { error_kind error ≡ ErrorKind.Interrupted → result ≡ pos 4 }
-    ensures other { error_kind error ≢ ErrorKind.Interrupted → result ≡ pos 0 }
-{
-    if error.kind() == ErrorKind::Interrupted {
-        EINTR
-    } else {
-        0
-    }
+    let answer = stream
+        .read(&mut buffer[before..])
+        .map_err(|error| error.kind());
+    told(answer, before)
 }

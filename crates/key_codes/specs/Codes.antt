@@ -1,8 +1,9 @@
 -- Laws of codes and of rows of codes: one code made known, codes in range, rows that say the same.
-use Rattle.std.specs.Prelude.{ℕ, zero, suc, ◌+◌, ◌<◌, ◌≡◌, refl, Bool, true, false, List, [], ◌∷◌, length, get_or, set, eqb}
-use Rattle.std.proofs.Common.{arith, sym, ap, ◌∙◌, true≢false, get_or-set_same, get_or-set_other, eqb-true, ne_eqb}
-use Rattle.std.proofs.Math.Decide.{dec_lt, ℕ_discrete}
+use Rattle.std.specs.Prelude.{ℕ, zero, suc, ◌<◌, ◌≡◌, refl, Bool, true, false, List, [], ◌∷◌, length, get_or, set, take, eqb, IsTrue, ◌≤◌, ◌↔◌}
+use Rattle.std.proofs.Common.{arith, sym, ap, ◌∙◌, get_or-set_same, get_or-set_other, eqb-true, ne_eqb}
+use Rattle.std.proofs.Math.Decide.{dec_lt}
 use Rattle.std.proofs.Math.ListN.{get_or-eq_default}
+use Rattle.std.proofs.lemmas.List.{get_or-take, get_or_default, length-take-le}
 use Rattle.rules.specs.Rule.{Form, value}
 use Rattle.rules.specs.Change.{change}
 use Rattle.rules.specs.Unique.{same_list}
@@ -12,12 +13,6 @@ use Rattle.knowing.specs.Know.{lifted}
 use Rattle.knowing.specs.Join.{not_known, known_one}
 use Rattle.rules.specs.Tests.{Tests}
 use Rattle.key_codes.specs.View.{coded}
-
--- A code within a list is the same for every default.
-pub default_free : (l : List ℕ) (i d e : ℕ) → i < length l → get_or l i d ≡ get_or l i e
-default_free [] i d e h = absurd (omega arith)
-default_free (x ∷ l) zero d e h = refl
-default_free (x ∷ l) (suc i) d e h = default_free l i d e (omega arith)
 
 -- A byte's code is known to be the byte.
 pub coded_byte : (b : ℕ) → b < 256 → coded b ≡ known b
@@ -48,26 +43,20 @@ one_code a b e = go (eqb a 256) (eqb b 256) refl refl
     go false true p q = absurd (not_known a (sym (said b true q) ∙ sym e ∙ said a false p))
     go false false p q = known_one a b (sym (said a false p) ∙ e ∙ said b false q)
 
--- One code more is within the limit.
-pub all_more : (l : List ℕ) (n limit : ℕ) → ((i : ℕ) → i < n → Within limit (coded (get_or l i 256))) → n < length l → Within limit (coded (get_or l n 0))
-    → (i : ℕ) → i < n + 1 → Within limit (coded (get_or l i 256))
-all_more l n limit all h w i o = go (ℕ_discrete i n)
-  where
-    go : Dec (i ≡ n) → Within limit (coded (get_or l i 256))
-    go (yes p) = rw (p, default_free l n 256 0 h) w
-    go (no p) = all i (omega arith)
-
--- One code that is not within the limit is enough.
-pub one_beyond : (l : List ℕ) (count n limit : ℕ) (b : Bool) → Tests b (Within limit (coded (get_or l n 0))) → b ≡ false → n < count → n < length l
-    → Tests false ((i : ℕ) → i < count → Within limit (coded (get_or l i 256)))
-one_beyond l count n limit b t e h o = record {
-  so = λ z. absurd (true≢false (sym z));
-  back = λ all. absurd (true≢false (sym (t.back (rw (default_free l n 0 256 o) (all n h))) ∙ e));
-}
-
 -- What is known of the first n codes is below the limit.
 abbrev pub RowSound : List ℕ → ℕ → ℕ → Type 0
 RowSound l n limit = (i : ℕ) → i < n → Within limit (coded (get_or l i 256))
+
+-- A test of the first n codes, asked as a row of their own.
+pub first_within : (l : List ℕ) (n limit : ℕ) {b : Bool} → n ≤ length l → IsTrue b ↔ ((i : ℕ) → i < length (take n l) → Within limit (coded (get_or (take n l) i 0)))
+    → Tests b (RowSound l n limit)
+first_within l n limit h t = record {
+  so = λ e i o. rw (sym (same i o)) (t.0 e i (omega (arith, length-take-le n l h)));
+  back = λ all. t.1 (λ i o. let p : i < n = omega (arith, length-take-le n l h) in rw (same i p) (all i p));
+}
+  where
+    same : (i : ℕ) → i < n → get_or (take n l) i 0 ≡ get_or l i 256
+    same i o = get_or-take n l i 0 o ∙ get_or_default l i 0 256 (omega arith)
 
 -- The codes are numbers of two bytes. This holds of every row that code hands over.
 abbrev pub Small : List ℕ → Type 0
@@ -91,7 +80,7 @@ pub same_row : (n : ℕ) (l m : List ℕ) → length l ≡ n → length m ≡ n 
 same_row n l m ll lm h = same_list n l m ll lm (λ i. at i (dec_lt i n))
   where
     at : (i : ℕ) → Dec (i < n) → get_or l i 0 ≡ get_or m i 0
-    at i (yes p) = default_free l i 0 256 (omega arith) ∙ one_code (get_or l i 256) (get_or m i 256) (h i) ∙ default_free m i 256 0 (omega arith)
+    at i (yes p) = get_or_default l i 0 256 (omega arith) ∙ one_code (get_or l i 256) (get_or m i 256) (h i) ∙ get_or_default m i 256 0 (omega arith)
     at i (no p) =
         let x : get_or l i 0 ≡ 0 = get_or-eq_default l 0 (omega arith) in
         let y : get_or m i 0 ≡ 0 = get_or-eq_default m 0 (omega arith) in

@@ -1,4 +1,5 @@
-// Key bytes in a row, each known or unknown as a whole: the code 256 is unknown, and any other code is known to be that number.
+// Key bytes in a row, each known or unknown as a whole: the code 256 is unknown, and any other code is known to be that number. They are codes and no `Option`s, since a
+// knowledge that is handed in may hold 257 or more, which number 2 refuses (`Codes.RowSound`).
 #![tactic(auto)]
 
 ghost use Rattle.std.specs.Prelude.{◌≤◌, length};
@@ -21,13 +22,5 @@ pub fn all_within(codes: &[u16], count: usize, limit: u16) -> bool
     requires { count ≤ length codes.now }
     ensures { (Tests result (RowSound codes.now count limit)) × (Small codes.now) }
 {
-    let mut i = 0;
-    while i < count {
-        let code = codes[i];
-        if !code_within(code, limit) {
-            return false;
-        }
-        i += 1;
-    }
-    true
+    codes[..count].iter().all(|code| code_within(*code, limit))
 }

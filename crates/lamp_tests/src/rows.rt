@@ -13,10 +13,8 @@ pub fn all_sound(codes: &[u16], count: usize, wide: u16) -> bool
     ensures { (w : ℕ) → Wide w wide → Tests result (LampsSound w codes.now count) }
 {
     let mut wrong: u16 = 0;
-    let mut i = 0;
-    while i < count {
-        wrong = wrong | wrong_bits(wide, codes[i]);
-        i += 1;
+    for code in &codes[..count] {
+        wrong |= wrong_bits(wide, *code);
     }
     wrong == 0
 }
@@ -26,10 +24,8 @@ pub fn none_known(codes: &[u16]) -> bool
     ensures { result ≡ true → (w i k : ℕ) → held w codes.now i k ≡ unknown }
 {
     let mut any: u16 = 0;
-    let mut i = 0;
-    while i < codes.len() {
-        any = any | codes[i];
-        i += 1;
+    for code in codes {
+        any |= *code;
     }
     any == 0
 }

@@ -1,9 +1,8 @@
 -- The memory that is known, as the program prints it (paper 01, the last paragraph of "Examples").
-use Rattle.std.specs.Prelude.{ℕ, List, [], ◌∷◌, ◌++◌}
+use Rattle.std.specs.Prelude.{ℕ, List, [], ◌∷◌, ◌++◌, Ok, Err}
 use Prim.Native.Char.{code}
 use Rattle.terms.specs.declared.Part.TheVariants.{Pt6302, Pt6312, Pt6315}
-use Rattle.terms.specs.declared.PartRead.{PartRead}
-use Rattle.terms.specs.declared.PartRead.TheVariants.{Is, Refused}
+use Rattle.terms.specs.Part.{PartRead}
 use Rattle.panel.specs.declared.Panel.{Panel}
 use Rattle.lines.specs.declared.rows.Names.TheVariants.{Addresses, Characters}
 use Rattle.lines.specs.Lines.{line, lines, named}
@@ -32,7 +31,7 @@ rams dcram cgram adram = line cell_marks (code "D" ∷ []) dcram ++ (characters 
 
 -- The memory of a part, 11 digits of PT6312 and 12 of PT6315.
 abbrev pub memory : PartRead → Panel → List ℕ
-memory (Is Pt6302) k = rams k.character.dcram k.character.cgram k.character.adram
-memory (Is Pt6312) k = digits 2 11 k.segment.cells
-memory (Is Pt6315) k = digits 3 12 k.segment.cells
-memory (Refused at) k = []
+memory (Ok Pt6302) k = rams k.character.dcram k.character.cgram k.character.adram
+memory (Ok Pt6312) k = digits 2 11 k.segment.cells
+memory (Ok Pt6315) k = digits 3 12 k.segment.cells
+memory (Err e) k = []

@@ -1,14 +1,13 @@
 -- The memory that the program prints, by what is known of its bits and by nothing else: each cell is its byte where every bit of
 -- it is known, and ?? where one is not (M-107). The argument: line by line and value by value, each code prints as what is
 -- known of its cell (`Known`).
-use Rattle.std.specs.Prelude.{ℕ, zero, suc, ◌+◌, ◌*◌, ◌<◌, ◌≤◌, ◌≡◌, refl, List, [], ◌∷◌, ◌++◌, length, get_or, take, drop}
+use Rattle.std.specs.Prelude.{ℕ, zero, suc, ◌+◌, ◌*◌, ◌<◌, ◌≤◌, ◌≡◌, refl, List, [], ◌∷◌, ◌++◌, length, get_or, take, drop, Ok}
 use Prim.Native.Char.{code}
 use Rattle.std.proofs.Common.{arith, zero-mul, suc-mul, sym, ap, ap₂, ◌∙◌, take_all, drop-cons, drop-drop}
 use Rattle.knowing.specs.Standing.{Standing, Sound}
 use Rattle.knowing.specs.Holds.{byte_in}
 use Rattle.terms.specs.declared.Part.{Part}
 use Rattle.terms.specs.declared.Part.TheVariants.{Pt6302, Pt6312, Pt6315}
-use Rattle.terms.specs.declared.PartRead.TheVariants.{Is}
 use Rattle.parts.specs.Facts.{Fact, range}
 use Rattle.segment.specs.declared.Family.{Family}
 use Rattle.segment.specs.declared.Family.TheVariants as OfFamily
@@ -93,7 +92,7 @@ cells_are f k width n fits most shaped good =
 
 -- "The program prints" what is known of the memory: where every known value is in range, as after every replay that is done,
 -- the memory's lines are those of what is known of each bit.
-pub memory_printed : (p : Part) (k : Panel) → Shaped k → Sound (range p) (known_of p k) → memory (Is p) k ≡ memory_of p (known_of p k)
+pub memory_printed : (p : Part) (k : Panel) → Shaped k → Sound (range p) (known_of p k) → memory (Ok p) k ≡ memory_of p (known_of p k)
 unfolding sizes
 memory_printed Pt6302 k shaped good =
     let h = k.character in

@@ -5,37 +5,22 @@
 ghost use Rattle.mirror_input.specs.Input.{part_byte, behind};
 ghost use Rattle.mirror.specs.Mirror.{Shows};
 
-use input::{Input, Stream, failed, read_input};
+use input::{run_on, status_of};
 use mirror_input::{part_byte, recording_of};
 use replay::from_nothing;
 use std::process::ExitCode;
 
-fn main(rt: HostRuntime) -> ExitCode {
-    let mut stream = Stream::new(rt.stdin());
-    let mut input = room();
-    match read_input(&mut stream, &mut input) {
-        Input::Whole(n) => print(&rt, &input[..n]),
-        Input::Full => print(&rt, &input),
-        Input::Failed => {
-            let what = "mirror: the input could not be read to its end";
-            failed(&rt, what, stream.error)
-        }
-    }
-}
+// The part byte, the longest recording that is allowed, and one byte more, which shows that a recording is too long.
+const ROOM: usize = 65537;
 
-// The part byte, the longest recording that is allowed, and one byte more, which shows that a recording is too long. A function of its
-// own, since a proof that sees so long a row counts it.
-fn room() -> [u8; 65537] {
-    [0u8; 65537]
+fn main(rt: HostRuntime) -> ExitCode {
+    run_on::<ROOM, _, _>(&rt, "mirror", rt.stdin(), |input| print(&rt, input))
 }
 
 fn print(rt: &(impl Print + Eprint), input: &[u8]) -> ExitCode {
     let mut out = [0u8; page::ROOM];
     let length = mirrored(input, &mut out);
-    match rt.write_all(&out[..length]) {
-        Ok(()) => ExitCode::SUCCESS,
-        Err(e) => failed(rt, "mirror: the page could not be written whole", Some(e)),
-    }
+    status_of(rt, "mirror", "page", rt.write_all(&out[..length]))
 }
 
 // Writes the page of an input to the front of `out`, and gives its length. Empty input has the part byte 0, which names no part.

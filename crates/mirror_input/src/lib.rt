@@ -7,21 +7,21 @@ ghost use Rattle.mirror_input.specs.Input.{part_byte, behind, start_byte};
 pub fn part_byte(input: &[u8]) -> u8
     ensures { result ≡ part_byte input.now }
 {
-    if input.len() == 0 { 0 } else { input[0] }
+    input.first().copied().unwrap_or(0)
 }
 
 pub fn recording_of(input: &[u8]) -> &[u8]
     ensures { result.now ≡ behind input.now }
 {
-    if input.len() == 0 {
-        return input;
+    match input {
+        [] => input,
+        [_, rest @ ..] => rest,
     }
-    &input[1..]
 }
 
 // The start byte of a field, behind the part byte. Where there is none no field is meant, and 255 starts none.
 pub fn start_byte(input: &[u8]) -> u8
     ensures { result ≡ start_byte input.now }
 {
-    if input.len() < 2 { 255 } else { input[1] }
+    input.get(1).copied().unwrap_or(255)
 }

@@ -1,6 +1,6 @@
 -- A record that was begun in an earlier packet. The argument: its bytes up to its length are one record or none
 -- (`account/Begun`), and what stands behind them is walked as if it stood alone.
-use Rattle.std.specs.Prelude.{ℕ, ◌+◌, ◌-◌, ◌≤◌, ◌≡◌, refl, List, [], ◌++◌, length, drop, take, get_or}
+use Rattle.std.specs.Prelude.{ℕ, ◌+◌, ◌-◌, ◌≤◌, ◌≡◌, refl, List, [], ◌++◌, length, drop, take, get_or, Ok, Err}
 use Rattle.std.proofs.Common.{arith, sym, ap, ◌∙◌, subst, take-append-drop}
 use Rattle.std.proofs.Math.Path.{subst⁻¹}
 use Rattle.std.proofs.Math.Seq.{drop-append-add}
@@ -8,10 +8,8 @@ use Rattle.terms.specs.declared.Event.{Event}
 use Rattle.terms.specs.declared.Place.{Place}
 use Rattle.terms.specs.declared.Part.{Part}
 use Rattle.recording.specs.Record.{body_of}
-use Rattle.recording.specs.Walk.{walked, events, end_of}
+use Rattle.recording.specs.Walk.{walked, events, end_of, Ending, stop_of}
 use Rattle.recording.specs.Cut.{Open, stands_at, left_by}
-use Rattle.recording.specs.declared.Ending.{Ending}
-use Rattle.recording.specs.declared.Ending.TheVariants.{Done, Stops}
 use Rattle.recording.specs.declared.Refusal.{Refusal}
 use Rattle.walks.specs.Turn.{InTurn}
 use Rattle.parts.specs.Facts.{same?, range, move}
@@ -61,7 +59,7 @@ module _ (p : Part) (k : Panel) (total after : ℕ) (u l : List ℕ) (b : Begun 
     rest_of_it : behind ≡ drop from l
     rest_of_it = ap (λ (i : ℕ). drop i (u ++ l)) (sym fits) ∙ drop-append-add u l from
 
-    pub joined_done : (r : Taken) → Done ≡ end_of (walked p t) → ReadsRow p n (total + from) total after (drop from l) r
+    pub joined_done : (r : Taken) → Ok tt ≡ end_of (walked p t) → ReadsRow p n (total + from) total after (drop from l) r
         → ReadsRow p k (total - length u) total after (u ++ l) r
     joined_done r q h =
         let long = as_long p total u l b all in
@@ -70,11 +68,11 @@ module _ (p : Part) (k : Panel) (total after : ℕ) (u l : List ℕ) (b : Begun 
         (row_on p k n (total - length u) total after t behind r known kept (subst Open q tt)
         (subst (λ (e : Ending). ReadsRow p n (total - length u + stands_at e t) total after (left_by e t ++ behind) r) q here))
 
-    pub joined_halts : (x : Refusal) (at : Place) (e : Ended) → Stops x at ≡ end_of (walked p t) → e ≡ halted total x (total - length u + at.0)
+    pub joined_halts : (x : Refusal) (at : Place) (e : Ended) → Err (stop_of x at) ≡ end_of (walked p t) → e ≡ halted total x (total - length u + at.0)
         → ReadsRow p k (total - length u) total after (u ++ l) (taking n e)
     joined_halts x at e q same =
         let shut = whole_told p total u l b all x at q in
         row_as p k refl refl all_of_it
         (row_told p k (total - length u) total after after t behind (taking n e) (λ o. shut (subst⁻¹ Open q o))
-        (row_ends p k n (total - length u) total after t e (Stops x at) known kept q
-        (halts_so (total - length u) total after t (Stops x at) x x at (total - length u + at.0) e refl refl shut refl same)))
+        (row_ends p k n (total - length u) total after t e (Err (stop_of x at)) known kept q
+        (halts_so (total - length u) total after t (Err (stop_of x at)) x x at (total - length u + at.0) e refl refl shut refl same)))

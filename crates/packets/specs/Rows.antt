@@ -5,9 +5,8 @@ use Rattle.std.proofs.Common.{sym, ◌∙◌, subst}
 use Rattle.terms.specs.declared.Event.{Event}
 use Rattle.terms.specs.declared.Part.{Part}
 use Rattle.terms.specs.declared.Part.TheVariants.{Pt6302, Pt6312, Pt6315}
-use Rattle.recording.specs.Walk.{walked, events, end_of}
+use Rattle.recording.specs.Walk.{walked, events, end_of, Ending}
 use Rattle.recording.specs.Cut.{stands_at, left_by, Open, cut_open, cut_told, left_behind}
-use Rattle.recording.specs.declared.Ending.{Ending}
 use Rattle.walks.specs.Turn.{InTurn, turn_on}
 use Rattle.parts.specs.Facts.{same?, range, move}
 use Rattle.panel.specs.declared.Panel.{Panel}

@@ -1,12 +1,10 @@
 -- Packets in turn (M-100): what each is answered, and what is kept in the end.
-use Rattle.std.specs.Prelude.{ℕ, ◌+◌, ◌≡◌, List, [], ◌∷◌, ◌++◌, length}
+use Rattle.std.specs.Prelude.{ℕ, ◌+◌, ◌≡◌, List, [], ◌∷◌, ◌++◌, length, Ok}
 use Rattle.terms.specs.declared.Part.{Part}
-use Rattle.terms.specs.declared.PartRead.{PartRead}
+use Rattle.terms.specs.Part.{PartRead}
 use Rattle.recording.specs.Walk.{walked, end_of}
 use Rattle.recording.specs.Cut.{Open}
-use Rattle.answers.specs.declared.Answer.{Answer}
-use Rattle.answers.specs.declared.Answer.TheVariants.{Done}
-use Rattle.answers.specs.Answer.{number, place}
+use Rattle.answers.specs.Answer.{Answer, number, place}
 use Rattle.feed.specs.declared.Feed.{Feed}
 use Rattle.packets.specs.declared.records.Taken.{Taken}
 use Rattle.packets.specs.Takes.{Takes}
@@ -25,7 +23,7 @@ together (l ∷ ls) = l ++ together ls
 
 -- What stands for the last answer where there is no packet: number 0 at the total. No call gave it.
 abbrev pub started : Feed → Taken
-started s = record { answer = Done (record { 0 = s.total }); feed = s }
+started s = record { answer = Ok (record { 0 = s.account.total }); feed = s }
 
 -- The last answer, and what is kept then.
 abbrev pub ending : Taken → List Taken → Taken

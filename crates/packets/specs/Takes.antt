@@ -1,9 +1,8 @@
 -- The whole answer to a packet (M-100): number, place, knowledge, unfinished bytes, total and standing refusal, on good and
 -- on refused calls.
-use Rattle.std.specs.Prelude.{ℕ, ◌+◌, ◌≡◌, List, ◌++◌, length}
+use Rattle.std.specs.Prelude.{ℕ, ◌+◌, ◌≡◌, List, ◌++◌, length, Ok, Err}
 use Rattle.terms.specs.declared.Part.{Part}
-use Rattle.terms.specs.declared.PartRead.{PartRead}
-use Rattle.terms.specs.declared.PartRead.TheVariants.{Is, Refused}
+use Rattle.terms.specs.Part.{PartRead}
 use Rattle.recording.specs.Walk.{walked, events, end_of}
 use Rattle.walks.specs.Turn.{InTurn}
 use Rattle.parts.specs.Facts.{same?, range, move}
@@ -26,7 +25,7 @@ pub record RefusedBy (n at : ℕ) (s : Feed) (r : Taken) : Type 0 where
 
 -- The account after the packet, beside the knowledge.
 abbrev pub ends : Taken → Ended
-ends r = record { answer = r.answer; unfinished = r.feed.unfinished; total = r.feed.total; kept = r.feed.kept }
+ends r = record { answer = r.answer; account = r.feed.account }
 
 -- The records of a row: how they end, and what is known after the last good one.
 pub record ReadsRow (p : Part) (k : Panel) (first before after : ℕ) (l : List ℕ) (r : Taken) : Type 0 where
@@ -39,16 +38,16 @@ abbrev pub ReadsWith : Part → Panel → Unfinished → ℕ → List ℕ → Ta
 ReadsWith p k u total l r = ReadsRow p k (first_place u total) total (total + length l) (bytes_of u ++ l) r
 
 abbrev pub Reads : Part → Feed → List ℕ → Taken → Type 0
-Reads p s l r = ReadsWith p s.panel s.unfinished s.total l r
+Reads p s l r = ReadsWith p s.panel s.account.unfinished s.account.total l r
 
 abbrev pub TakesPart : Part → Feed → List ℕ → Taken → Type 0
 TakesPart p s l r = Tested p s (length l) (λ n at. RefusedBy n at s r) (Reads p s l r)
 
 -- Test 1 comes first.
 abbrev pub Takes : PartRead → Feed → List ℕ → Taken → Type 0
-Takes (Is p) s l r = TakesPart p s l r
-Takes (Refused at) s l r = RefusedBy 1 0 s r
+Takes (Ok p) s l r = TakesPart p s l r
+Takes (Err e) s l r = RefusedBy 1 0 s r
 
 -- A knowledge and an account, put together.
 abbrev pub taking : Panel → Ended → Taken
-taking k e = record { answer = e.answer; feed = record { panel = k; unfinished = e.unfinished; total = e.total; kept = e.kept } }
+taking k e = record { answer = e.answer; feed = record { panel = k; account = e.account } }

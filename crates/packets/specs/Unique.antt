@@ -1,18 +1,15 @@
 -- Two answers to one packet are one. The argument: number and place fix the answer, what is known of every fact fixes the
 -- knowledge, and how the records end fixes the account.
-use Rattle.std.specs.Prelude.{ℕ, ◌≡◌, List, ◌++◌}
+use Rattle.std.specs.Prelude.{ℕ, ◌≡◌, List, ◌++◌, Ok, Err, Option, None, Some}
 use Rattle.std.proofs.Common.{sym, ◌∙◌}
 use Rattle.rules.specs.Where.{where_both}
 use Rattle.terms.specs.declared.Part.{Part}
-use Rattle.terms.specs.declared.PartRead.{PartRead}
-use Rattle.terms.specs.declared.PartRead.TheVariants.{Is, Refused}
+use Rattle.terms.specs.Part.{PartRead}
 use Rattle.recording.specs.Walk.{walked, end_of}
 use Rattle.panel.specs.declared.Panel.{Panel}
 use Rattle.panel.specs.Unique.{Shaped, same_panel}
-use Rattle.answers.specs.Answer.{number, place}
+use Rattle.answers.specs.Answer.{Answer, number, place}
 use Rattle.answers.specs.Unique.{same_answer}
-use Rattle.account.specs.declared.Kept.{Kept}
-use Rattle.account.specs.declared.Kept.TheVariants as Stands
 use Rattle.account.specs.Bytes.{bytes_of}
 use Rattle.account_tests.specs.Tests.{ByKept}
 use Rattle.account_ends.specs.Unique.{one_end}
@@ -38,14 +35,14 @@ module _ (r q : Taken) where
         same_ends (same_panel p k r.feed.panel q.feed.panel sr sq (λ f. h.known f ∙ sym (g.known f)) h.kept g.kept)
         (one_end (ends r) (ends q) (end_of (walked p l)) first before after l h.ended g.ended)
 
-    one_kept : (k : Kept) (s : Feed) (P Q : Type 0) → (P → Q → r ≡ q) → ByKept k (λ n at. RefusedBy n at s r) P → ByKept k (λ n at. RefusedBy n at s q) Q → r ≡ q
-    one_kept Stands.None s P Q same h g = same h g
-    one_kept (Stands.Refused a) s P Q same h g = one_refusal (number a) (place a) s h g
+    one_kept : (k : Option Answer) (s : Feed) (P Q : Type 0) → (P → Q → r ≡ q) → ByKept k (λ n at. RefusedBy n at s r) P → ByKept k (λ n at. RefusedBy n at s q) Q → r ≡ q
+    one_kept None s P Q same h g = same h g
+    one_kept (Some a) s P Q same h g = one_refusal (number a) (place a) s h g
 
     -- Two answers to one packet are one.
     pub one_taken : (part : PartRead) (s : Feed) (l : List ℕ) → Takes part s l r → Takes part s l q → r ≡ q
-    one_taken (Is p) s l h g =
+    one_taken (Ok p) s l h g =
         where_both
-        (one_kept s.kept s _ _ (where_both (one_row p s.panel _ s.total _ (bytes_of s.unfinished ++ l)) (one_refusal 4 0 s)))
+        (one_kept s.account.kept s _ _ (where_both (one_row p s.panel _ s.account.total _ (bytes_of s.account.unfinished ++ l)) (one_refusal 4 0 s)))
         (one_refusal 2 0 s) h g
-    one_taken (Refused at) s l h g = one_refusal 1 0 s h g
+    one_taken (Err e) s l h g = one_refusal 1 0 s h g

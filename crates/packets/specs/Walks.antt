@@ -13,23 +13,23 @@ use Rattle.segment.specs.Move as SegmentMove
 use Rattle.segment_knowledge.specs.View as OfSegment
 use Rattle.panel.specs.declared.Panel.{Panel}
 use Rattle.panel.specs.View.{known_of, OtherKept}
-use Rattle.packets.specs.declared.walked.PanelWalked.{PanelWalked}
+use Rattle.walks.specs.declared.Walked.{Walked}
 
 -- The records from the front, each by 5, 6, 7, 8: how they end, what the events before that, in turn, make of the
 -- knowledge, and that the half that speaks of the other parts is as it was.
-pub record Walks (p : Part) (k : Panel) (l : List ℕ) (r : PanelWalked) : Type 0 where
+pub record Walks (p : Part) (k : Panel) (l : List ℕ) (r : Walked Panel) : Type 0 where
   pub ended : r.ending ≡ end_of (walked p l)
-  pub known : InTurn (known_of p) (same? p) (range p) (move p) (events (walked p l)) k r.panel
-  pub kept : OtherKept p k r.panel
+  pub known : InTurn (known_of p) (same? p) (range p) (move p) (events (walked p l)) k r.k
+  pub kept : OtherKept p k r.k
 
 -- The same for PT6312 and PT6315, by the family's numbers.
-pub record SegmentWalks (part : Part) (p : Family) (k : Panel) (l : List ℕ) (r : PanelWalked) : Type 0 where
+pub record SegmentWalks (part : Part) (p : Family) (k : Panel) (l : List ℕ) (r : Walked Panel) : Type 0 where
   pub ended : r.ending ≡ end_of (walked part l)
   pub known : InTurn OfSegment.kview SegmentFact.same? (SegmentFact.range (sizes p)) (SegmentMove.move (sizes p))
-      (events (walked part l)) k.segment r.panel.segment
-  pub kept : r.panel.character ≡ k.character
+      (events (walked part l)) k.segment r.k.segment
+  pub kept : r.k.character ≡ k.character
 
 -- By a part's own numbers the one is the other.
-pub by_family : (q : Family) (k : Panel) (l : List ℕ) (r : PanelWalked) → SegmentWalks (in_family q) q k l r → Walks (in_family q) k l r
+pub by_family : (q : Family) (k : Panel) (l : List ℕ) (r : Walked Panel) → SegmentWalks (in_family q) q k l r → Walks (in_family q) k l r
 by_family Pt6312 k l r w = record { ended = w.ended; known = w.known; kept = w.kept }
 by_family Pt6315 k l r w = record { ended = w.ended; known = w.known; kept = w.kept }

@@ -5,6 +5,6 @@ mod packets;
 mod records;
 mod walked;
 
-pub use feed::{Answer, Feed, Kept, Unfinished, closed, opened};
+pub use feed::{Account, Answer, Feed, Refused, Unfinished, closed, opened};
 pub use packets::taken;
 pub use records::Taken;

@@ -8,29 +8,25 @@ ghost use Rattle.packets.specs.Takes.{ReadsWith, Reads, Takes};
 
 use crate::records::{Taken, read_from, with_panel};
 use crate::walked::panel_walk;
-use account::{Unfinished, count_of, joined, whole_of};
-use answers::{Answer, Trial};
+use account::{Account, count_of, joined, whole_of};
 use begun_ends::{begun_refused, put_off};
 use feed::{Feed, tried};
 use panel::Panel;
-use recording::Ending;
-use terms::{Part, PartRead, part_of};
+use terms::Part;
 
 // Test 1, then tests 2, the standing refusal and 4, then the records.
 pub fn taken(part: u8, feed: Feed, packet: &[u8]) -> Taken
     ensures { Takes (part_of part) feed packet.now result }
 {
-    let named = part_of(part);
-    match named {
-        PartRead::Is(is) => {
-            let tried = tried(is, feed, packet.len());
-            match tried {
-                Trial::Passed => read(is, feed, packet),
-                Trial::Refused(answer) => Taken { answer, feed },
+    match Part::try_from(part) {
+        Ok(part) => {
+            match tried(part, feed, packet.len()) {
+                Ok(()) => read(part, feed, packet),
+                Err(answer) => Taken { answer, feed },
             }
         }
-        PartRead::Refused(at) => Taken {
-            answer: Answer::NoPart(at),
+        Err(no_part) => Taken {
+            answer: Err(no_part.into()),
             feed,
         },
     }
@@ -38,45 +34,33 @@ pub fn taken(part: u8, feed: Feed, packet: &[u8]) -> Taken
 
 // Where a record was begun, it is with the packet still too short, or whole.
 fn read(part: Part, feed: Feed, packet: &[u8]) -> Taken
-    requires { (Good part feed) × (feed.total + length packet.now ≤ 4294967295) }
+    requires { (Good part feed) × (feed.account.total + length packet.now ≤ 4294967295) }
     ensures { Reads part feed packet.now result }
 {
-    let panel = feed.panel;
-    let unfinished = feed.unfinished;
-    let total = feed.total;
-    let count = count_of(unfinished);
+    let Feed { panel, account } = feed;
+    let count = count_of(account.unfinished);
     if count == 0 {
-        return read_from(part, panel, total, packet, 0);
+        return read_from(part, panel, account.total, packet, 0);
     }
-    let from = whole_of(unfinished) - count;
+    let from = whole_of(account.unfinished) - count;
     if packet.len() < from {
-        return with_panel(panel, put_off(unfinished, total, packet));
+        return with_panel(panel, put_off(account, packet));
     }
-    read_begun(part, panel, unfinished, total, packet, from)
+    read_begun(part, panel, account, packet, from)
 }
 
 // The record that was begun is put together with the bytes that it still needs; the others are read where they stand.
-fn read_begun(
-    part: Part,
-    panel: Panel,
-    unfinished: Unfinished,
-    total: u32,
-    packet: &[u8],
-    from: usize,
-) -> Taken
-    requires { (Begun part (bytes_of unfinished) total) × (total + length packet.now ≤ 4294967295) × (length (bytes_of unfinished) + from ≡ whole_of (bytes_of unfinished)) × (from ≤ length packet.now) }
-    ensures { ReadsWith part panel unfinished total packet.now result }
+fn read_begun(part: Part, panel: Panel, account: Account, packet: &[u8], from: usize) -> Taken
+    requires { (Begun part (bytes_of account.unfinished) account.total) × (account.total + length packet.now ≤ 4294967295) × (length (bytes_of account.unfinished) + from ≡ whole_of (bytes_of account.unfinished)) × (from ≤ length packet.now) }
+    ensures { ReadsWith part panel account.unfinished account.total packet.now result }
 {
-    let row = joined(unfinished, packet);
-    let whole = whole_of(unfinished);
+    let row = joined(account.unfinished, packet);
+    let whole = whole_of(account.unfinished);
     let walked = panel_walk(part, panel, &row[..whole]);
     let ending = walked.ending;
-    let after = walked.panel;
+    let after = walked.k;
     match ending {
-        Ending::Done => read_from(part, after, total, packet, from),
-        Ending::Stops(refusal, at) => with_panel(
-            after,
-            begun_refused(unfinished, total, refusal, at),
-        ),
+        Ok(()) => read_from(part, after, account.total, packet, from),
+        Err(stop) => with_panel(after, begun_refused(account, stop.refusal, stop.at)),
     }
 }

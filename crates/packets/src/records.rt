@@ -23,7 +23,7 @@ pub fn read_from(part: Part, panel: Panel, total: u32, packet: &[u8], from: usiz
 {
     let walked = panel_walk(part, panel, &packet[from..]);
     let ending = walked.ending;
-    let after = walked.panel;
+    let after = walked.k;
     with_panel(after, settled(total, packet, from, ending))
 }
 
@@ -31,16 +31,11 @@ pub fn read_from(part: Part, panel: Panel, total: u32, packet: &[u8], from: usiz
 pub fn with_panel(panel: Panel, ended: Ended) -> Taken
     ensures { result ≡ taking panel ended }
 {
-    let answer = ended.answer;
-    let unfinished = ended.unfinished;
-    let kept = ended.kept;
     Taken {
-        answer,
+        answer: ended.answer,
         feed: Feed {
             panel,
-            unfinished,
-            total: ended.total,
-            kept,
+            account: ended.account,
         },
     }
 }

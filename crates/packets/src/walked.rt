@@ -4,50 +4,43 @@ ghost use Rattle.packets.specs.Walks.{Walks, SegmentWalks};
 
 use character_walks::character_walk;
 use panel::{Panel, with_character, with_segment};
-use parts::{Kind, kind_of};
-use recording::Ending;
+use parts::Kind;
 use segment::Family;
 use segment_walks::segment_walk;
 use terms::Part;
+use walks::Walked;
 
-// How the walk ended, and the knowledge after all events before that.
-#[derive(Clone, Copy)]
-pub struct PanelWalked {
-    pub ending: Ending,
-    pub panel: Panel,
-}
-
-pub fn panel_walk(part: Part, panel: Panel, bytes: &[u8]) -> PanelWalked
+pub fn panel_walk(part: Part, panel: Panel, bytes: &[u8]) -> Walked<Panel>
     ensures { Walks part panel bytes.now result }
 {
-    match kind_of(part) {
+    match Kind::from(part) {
         Kind::Character => character_walked(panel, bytes),
         Kind::Segment(family) => segment_walked(part, family, panel, bytes),
     }
 }
 
-fn segment_walked(part: Part, family: Family, panel: Panel, bytes: &[u8]) -> PanelWalked
+fn segment_walked(part: Part, family: Family, panel: Panel, bytes: &[u8]) -> Walked<Panel>
     ensures { SegmentWalks part family panel bytes.now result }
 {
     let k = panel.segment;
     let walked = segment_walk(part, family, k, bytes);
     let ending = walked.ending;
     let segment = walked.k;
-    PanelWalked {
+    Walked {
         ending,
-        panel: with_segment(panel, segment),
+        k: with_segment(panel, segment),
     }
 }
 
-fn character_walked(panel: Panel, bytes: &[u8]) -> PanelWalked
+fn character_walked(panel: Panel, bytes: &[u8]) -> Walked<Panel>
     ensures { Walks Pt6302 panel bytes.now result }
 {
     let k = panel.character;
     let walked = character_walk(Part::Pt6302, k, bytes);
     let ending = walked.ending;
     let character = walked.k;
-    PanelWalked {
+    Walked {
         ending,
-        panel: with_character(panel, character),
+        k: with_character(panel, character),
     }
 }

@@ -1,9 +1,8 @@
 -- What is written is the page: the number of the answer tells which page it is.
 use Rattle.std.specs.Prelude.{ℕ, zero, suc, ◌≡◌, refl, ◌++◌}
-use Rattle.terms.specs.declared.PartRead.{PartRead}
+use Rattle.terms.specs.Part.{PartRead}
 use Rattle.panel.specs.declared.Panel.{Panel}
-use Rattle.answers.specs.declared.Answer.{Answer}
-use Rattle.answers.specs.Answer.{number, place}
+use Rattle.answers.specs.Answer.{Answer, number, place}
 use Rattle.refusals.specs.Refusal.{refused_at}
 use Rattle.listing.specs.Memory.{memory}
 use Rattle.page.specs.Page.{done_at, printed, page}

@@ -1,10 +1,9 @@
 -- What the program prints of a replay (paper 01, the last paragraph of "Examples").
 use Rattle.std.specs.Prelude.{ℕ, zero, suc, List, [], ◌∷◌, ◌++◌}
 use Prim.Native.Char.{code}
-use Rattle.terms.specs.declared.PartRead.{PartRead}
+use Rattle.terms.specs.Part.{PartRead}
 use Rattle.panel.specs.declared.Panel.{Panel}
-use Rattle.answers.specs.declared.Answer.{Answer}
-use Rattle.answers.specs.Answer.{number, place}
+use Rattle.answers.specs.Answer.{Answer, number, place}
 use Rattle.text.specs.Text.{newline, decimal}
 use Rattle.refusals.specs.Refusal.{refused_at}
 use Rattle.listing.specs.Memory.{memory}

@@ -1,6 +1,6 @@
 // The whole page of a replay.
 ghost use Rattle.terms.specs.Part.{part_of};
-ghost use Rattle.writing.specs.Writes.{Writes};
+ghost use Rattle.writing.specs.Wrote.{Wrote};
 ghost use Rattle.writing.specs.Prints.{Prints};
 ghost use Rattle.page.specs.Page.{done_at, page, room};
 
@@ -10,7 +10,7 @@ use panel::Panel;
 use refusals::refused;
 use terms::Place;
 use text::decimal;
-use writing::{put, words};
+use writing::Writer;
 
 // Enough for every page.
 pub const ROOM: usize = 300;
@@ -23,18 +23,21 @@ pub fn write_page(part: u8, answer: Answer, panel: Panel, out: &mut [u8]) -> usi
     if out.len() < ROOM {
         return 0;
     }
+    let mut w = Writer { out, at: 0 };
     let told = told_of(answer);
-    if told.0 == 0 {
-        let next = done(out, told.1);
-        return memory(out, next, part, panel);
+    if told.number == 0 {
+        done(&mut w, told.place);
+        memory(&mut w, part, panel);
+        return w.at;
     }
-    refused(out, told.0, told.1)
+    refused(&mut w, told.number, told.place);
+    w.at
 }
 
-fn done(out: &mut [u8], place: Place) -> usize
-    ensures { Writes out.old 0 (done_at place.0) result out.new }
+fn done(w: &mut Writer, place: Place)
+    ensures { Wrote w.old (done_at place.0) w.new }
 {
-    let begun = words(out, 0, b"done at ");
-    let told = decimal(out, begun, place.0);
-    put(out, told, b'\n')
+    w.words(b"done at ");
+    decimal(w, place.0);
+    w.put(b'\n');
 }

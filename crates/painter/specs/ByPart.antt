@@ -1,14 +1,12 @@
 -- What the painter answers where it has a part, a picture within its ranges and room enough: done, with the painting
 -- in front. The argument: its tests let such a picture pass, and the stream is as long as the size of the part's
 -- painting.
-use Rattle.std.specs.Prelude.{ℕ, ◌≤◌, ◌≡◌, refl, List, ◌++◌, length, drop, take}
+use Rattle.std.specs.Prelude.{ℕ, ◌≤◌, ◌≡◌, refl, List, ◌++◌, length, drop, take, Ok}
 use Rattle.std.proofs.Common.{arith, ap, ◌∙◌, length-take-le, take_at, le-leb}
 use Rattle.terms.specs.declared.Part.{Part}
 use Rattle.terms.specs.declared.Part.TheVariants.{Pt6302, Pt6312, Pt6315}
-use Rattle.terms.specs.declared.PartRead.{PartRead}
-use Rattle.terms.specs.declared.PartRead.TheVariants.{Is}
 use Rattle.terms.specs.Event.{recording}
-use Rattle.terms.specs.Part.{part_of}
+use Rattle.terms.specs.Part.{PartRead, part_of}
 use Rattle.segment.specs.declared.Family.{Family}
 use Rattle.segment.specs.declared.Family.TheVariants as OfFamily
 use Rattle.segment.specs.Family.{sizes}
@@ -19,9 +17,7 @@ use Rattle.painting.specs.declared.SegmentPicture.{SegmentPicture}
 use Rattle.painting.specs.Segment as Segment
 use Rattle.painting.specs.Character as Character
 use Rattle.painting.specs.Picture.{Shaped, PictureInRange, events_for}
-use Rattle.painting.specs.declared.Painted.{Painted}
-use Rattle.painting.specs.declared.Painted.TheVariants.{Done}
-use Rattle.painting.specs.Answer.{segment_size, character_size, answer_for, answer, stream_for, written, output}
+use Rattle.painting.specs.Answer.{Painted, segment_size, character_size, answer_for, answer, stream_for, written, output}
 use Rattle.painting.specs.Fits.{fits_segment, fits_character}
 use Rattle.segment_painter.specs.Five.{five_length, size_is}
 use Rattle.character_painter.specs.Seven.{seven_length}
@@ -48,21 +44,21 @@ painting_length Pt6302 pic s =
 painting_length Pt6312 pic s = segment_length OfFamily.Pt6312 pic.segment s.cells
 painting_length Pt6315 pic s = segment_length OfFamily.Pt6315 pic.segment s.cells
 
-answers_done : (p : Part) (pic : Picture) (n : ℕ) → PictureInRange p pic → size_for p ≤ n → answer_for (Is p) pic n ≡ Done (record { 0 = size_for p })
+answers_done : (p : Part) (pic : Picture) (n : ℕ) → PictureInRange p pic → size_for p ≤ n → answer_for (Ok p) pic n ≡ Ok (record { 0 = size_for p })
 answers_done Pt6302 pic n h r = rw (fits_character pic.character h, le-leb character_size n r) refl
 answers_done Pt6312 pic n h r = rw (fits_segment (sizes OfFamily.Pt6312) pic.segment h, le-leb 66 n r) refl
 answers_done Pt6315 pic n h r = rw (fits_segment (sizes OfFamily.Pt6315) pic.segment h, le-leb 94 n r) refl
 
-streams : (p : Part) (pic : Picture) → stream_for (Is p) pic ≡ recording (events_for p pic)
+streams : (p : Part) (pic : Picture) → stream_for (Ok p) pic ≡ recording (events_for p pic)
 streams Pt6302 pic = refl
 streams Pt6312 pic = refl
 streams Pt6315 pic = refl
 
 -- Where the part byte names the part p.
-module _ (b : ℕ) (p : Part) (named : part_of b ≡ Is p) (pic : Picture) (shaped : Shaped pic) (fits : PictureInRange p pic) (out : List ℕ)
+module _ (b : ℕ) (p : Part) (named : part_of b ≡ Ok p) (pic : Picture) (shaped : Shaped pic) (fits : PictureInRange p pic) (out : List ℕ)
     (enough : size_for p ≤ length out) where
   -- It is painted, and its place is the size.
-  pub paint_done : answer b pic (length out) ≡ Done (record { 0 = size_for p })
+  pub paint_done : answer b pic (length out) ≡ Ok (record { 0 = size_for p })
   paint_done = ap (λ (q : PartRead). answer_for q pic (length out)) named ∙ answers_done p pic (length out) fits enough
 
   -- The painting stands in front of the output.

@@ -1,21 +1,19 @@
 -- Each answer of the painter, for any picture: what its test, the size of its stream and the room come to.
-use Rattle.std.specs.Prelude.{ℕ, ◌≤◌, ◌≡◌, refl, Bool, true, false, List, leb, eqb}
+use Rattle.std.specs.Prelude.{ℕ, ◌≤◌, ◌≡◌, refl, Bool, true, false, List, leb, eqb, Ok, Err}
 use Rattle.std.proofs.Common.{arith, leb-true, eqb-true}
 use Rattle.segment.specs.declared.Family.TheVariants.{Pt6312, Pt6315}
 use Rattle.segment.specs.Family.{sizes}
-use Rattle.painting.specs.declared.Painted.{Painted}
-use Rattle.painting.specs.declared.Painted.TheVariants.{Done, OutOfRange, TooSmall}
-use Rattle.painting.specs.Answer.{number, place, segment_size, character_size, judged, judged_number, judged_place, answer_for, number_for, place_for, in_front, written}
+use Rattle.painting.specs.declared.NotPainted.TheVariants.{OutOfRange, TooSmall}
+use Rattle.painting.specs.Answer.{Painted, number, place, segment_size, character_size, judged, judged_number, judged_place, answer_for, number_for, place_for, in_front, written}
 use Rattle.painting.specs.Fits.{segment_fits, character_fits}
 use Rattle.painting.specs.declared.Picture.{Picture}
 use Rattle.terms.specs.declared.Part.TheVariants.{Pt6302, Pt6312 as OfPt6312, Pt6315 as OfPt6315}
-use Rattle.terms.specs.declared.PartRead.{PartRead}
-use Rattle.terms.specs.declared.PartRead.TheVariants.{Is, Refused}
+use Rattle.terms.specs.Part.{PartRead}
 use Rattle.rules.specs.Choice.{whether}
 
 -- The answer by its two tests.
 abbrev by : ℕ → Bool → Bool → Painted
-by n fits enough = whether fits (whether enough (Done (record { 0 = n })) (TooSmall (record { 0 = 0 }))) (OutOfRange (record { 0 = 0 }))
+by n fits enough = whether fits (whether enough (Ok (record { 0 = n })) (Err (TooSmall (record { 0 = 0 })))) (Err (OutOfRange (record { 0 = 0 })))
 
 -- Done, the picture fits, there is room, and the stream is written.
 pub done : (t : Bool) (n room : ℕ) (stream out : List ℕ) → eqb (number (judged t n room)) 0 ≡ true
@@ -46,7 +44,7 @@ judged_number_lem t n room = go t (leb n room)
     go false u = (refl, refl)
 
 pub answer_number : (q : PartRead) (p : Picture) (room : ℕ) → (number (answer_for q p room) ≡ number_for q p room) × ((place (answer_for q p room)).0 ≡ place_for q p room)
-answer_number (Is Pt6302) p room = judged_number_lem (character_fits p.character) character_size room
-answer_number (Is OfPt6312) p room = judged_number_lem (segment_fits (sizes Pt6312) p.segment) (segment_size Pt6312) room
-answer_number (Is OfPt6315) p room = judged_number_lem (segment_fits (sizes Pt6315) p.segment) (segment_size Pt6315) room
-answer_number (Refused a) p room = (refl, refl)
+answer_number (Ok Pt6302) p room = judged_number_lem (character_fits p.character) character_size room
+answer_number (Ok OfPt6312) p room = judged_number_lem (segment_fits (sizes Pt6312) p.segment) (segment_size Pt6312) room
+answer_number (Ok OfPt6315) p room = judged_number_lem (segment_fits (sizes Pt6315) p.segment) (segment_size Pt6315) room
+answer_number (Err e) p room = (refl, refl)

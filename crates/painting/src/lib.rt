@@ -1,12 +1,13 @@
 // The wanted picture of a panel, by value, and what a painting of it comes to. What paints it, and that this leads every chip to the picture, stands in specs/.
 #![tactic(auto)]
 
-ghost use Rattle.std.specs.Prelude.{◌≡◌, eqb};
-ghost use Rattle.painting.specs.Answer.{judged as judgedAs, number};
+ghost use Rattle.std.specs.Prelude.{◌≡◌};
+ghost use Rattle.painting.specs.Answer.{judged as judgedAs};
+ghost use Rattle.painting.specs.declared.NotPainted.TheVariants as Why;
 
 use character::Lights;
 use segment::Display;
-use terms::Place;
+use terms::{NoPart, Place};
 
 // A picture of a PT6312 or PT6315 panel: its memory and the settings that a painting sets.
 #[derive(Clone, Copy)]
@@ -38,11 +39,11 @@ pub struct Picture {
     pub character: CharacterPicture,
 }
 
-// What a painting comes to.
-#[derive(Clone, Copy)]
-pub enum Painted {
-    // Painted: the length of the recording that was written.
-    Done(Place),
+// What a painting comes to: the length of the recording that was written, or why there is none.
+pub type Painted = Result<Place, NotPainted>;
+
+#[derive(Clone, Copy, Debug, PartialEq, Eq)]
+pub enum NotPainted {
     // The part byte names no part.
     NoPart(Place),
     // A value of the picture is out of its range.
@@ -51,26 +52,23 @@ pub enum Painted {
     TooSmall(Place),
 }
 
+impl From<NoPart> for NotPainted {
+    ghost from_gives = { λ unnamed r. r ≡ Why.NoPart unnamed.0 };
+
+    fn from(unnamed: NoPart) -> NotPainted {
+        NotPainted::NoPart(unnamed.0)
+    }
+}
+
 // First 9, for a value out of its range, and then 10, for too little room.
 pub fn judged(fits: bool, size: usize, room: usize) -> Painted
     ensures { result ≡ judgedAs fits size room }
 {
     if !fits {
-        return Painted::OutOfRange(Place(0));
+        return Err(NotPainted::OutOfRange(Place(0)));
     }
     if room < size {
-        return Painted::TooSmall(Place(0));
+        return Err(NotPainted::TooSmall(Place(0)));
     }
-    Painted::Done(Place(size))
-}
-
-pub fn is_done(answer: Painted) -> bool
-    ensures { result ≡ eqb (number answer) 0 }
-{
-    match answer {
-        Painted::Done(_) => true,
-        Painted::NoPart(_) => false,
-        Painted::OutOfRange(_) => false,
-        Painted::TooSmall(_) => false,
-    }
+    Ok(Place(size))
 }

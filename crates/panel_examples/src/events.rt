@@ -15,11 +15,12 @@
 //
 // What is written is the answer to the last event, where it is refused, what is known then, and the report.
 use crate::in_words;
-use example_panels::show_known;
-use example_text::{Line, hex, text};
-use hearing::{Answer, Heard};
+use example_panels::write_panel;
+use example_text::Line;
+use hearing::{Answer, Heard, Refused};
 use panel::Panel;
-use reporting::Report;
+use reporting::{NoReport, Report};
+use segment::Sent;
 use segment_sent::Sending;
 use std::io;
 use terms::Place;
@@ -29,67 +30,55 @@ pub fn run(rt: &impl Print, part: u8, panel: Panel, records: &[u8]) -> io::Resul
     let answer = heard.answer;
     show(rt, answer)?;
     let after = heard.panel;
-    show_known(rt, part, after, false, true)?;
+    write_panel(rt, part, &after)?;
     tell(rt, reporting::next_sent(part, after))
 }
 
 fn heard(part: u8, panel: Panel, records: &[u8]) -> Heard {
     let mut heard = Heard {
-        answer: Answer::Done,
+        answer: Ok(()),
         panel,
     };
-    let mut line = Line::new().with_byte(part);
+    let mut line = Line::behind(part);
     for byte in records {
-        line = line.with_byte(*byte);
-        heard = after(heard, line);
+        if let Some(event) = line.read(*byte) {
+            heard = hearing::hear(part, heard.panel, event);
+        }
     }
     heard
 }
 
-fn after(heard: Heard, line: Line) -> Heard {
-    if line.whole {
-        hearing::hear(line.part, heard.panel, line.event())
-    } else {
-        heard
-    }
-}
-
 fn show(rt: &impl Print, answer: Answer) -> io::Result<()> {
     match answer {
-        Answer::Done => Ok(()),
-        Answer::NoPart(place) => refused(rt, 1, place),
-        Answer::OutOfRange(place) => refused(rt, 2, place),
-        Answer::Foreign(place) => refused(rt, 6, place),
-        Answer::Forbidden(place) => refused(rt, 8, place),
+        Ok(()) => Ok(()),
+        Err(Refused::NoPart(place)) => refused(rt, 1, place),
+        Err(Refused::OutOfRange(place)) => refused(rt, 2, place),
+        Err(Refused::Foreign(place)) => refused(rt, 6, place),
+        Err(Refused::Forbidden(place)) => refused(rt, 8, place),
     }
 }
 
 fn refused(rt: &impl Print, n: usize, place: Place) -> io::Result<()> {
-    in_words::refused(rt, b"\n    ", n, place)
+    in_words::refused(rt, "\n    ", n, place)
 }
 
 fn tell(rt: &impl Print, report: Report) -> io::Result<()> {
-    text(rt, b"\n    next byte ")?;
+    print!(rt; "\n    next byte ")?;
     match report {
-        Report::Is(sending) => sends(rt, sending),
-        Report::NoPart(place) => unknown(rt, 1, place),
-        Report::OutOfRange(place) => unknown(rt, 2, place),
+        Ok(sending) => sends(rt, sending),
+        Err(NoReport::NoPart(place)) => unknown(rt, 1, place),
+        Err(NoReport::OutOfRange(place)) => unknown(rt, 2, place),
     }
 }
 
 fn unknown(rt: &impl Print, n: usize, place: Place) -> io::Result<()> {
-    in_words::refused(rt, b"unknown, ", n, place)
+    in_words::refused(rt, "unknown, ", n, place)
 }
 
 fn sends(rt: &impl Print, sending: Sending) -> io::Result<()> {
     match sending {
-        Sending::Byte(byte) => sends_byte(rt, byte),
-        Sending::NotDriven => text(rt, b"not driven"),
-        Sending::Unknown => text(rt, b"unknown"),
+        Sending::Known(Sent::Byte(byte)) => print!(rt; "sends {byte:02X}"),
+        Sending::Known(Sent::NotDriven) => print!(rt; "not driven"),
+        Sending::Unknown => print!(rt; "unknown"),
     }
-}
-
-fn sends_byte(rt: &impl Print, byte: u8) -> io::Result<()> {
-    text(rt, b"sends ")?;
-    hex(rt, byte)
 }

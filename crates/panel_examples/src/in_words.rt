@@ -1,22 +1,17 @@
 // Answers, in words.
 use answers::{Answer, told_of};
-use example_text::{number, text};
 use std::io;
 use terms::Place;
 
 // Paper 01's number and place, behind a title.
-pub fn answered(rt: &impl Print, title: &[u8], answer: Answer) -> io::Result<()> {
+pub fn answered(rt: &impl Print, title: &str, answer: Answer) -> io::Result<()> {
     let told = told_of(answer);
-    if told.0 == 0 {
-        text(rt, title)?;
-        number(rt, b"done at ", told.1.0)
-    } else {
-        refused(rt, title, told.0 as usize, told.1)
+    match told.number {
+        0 => print!(rt; "{title}done at {}", told.place.0),
+        number => refused(rt, title, number as usize, told.place),
     }
 }
 
-pub fn refused(rt: &impl Print, title: &[u8], n: usize, place: Place) -> io::Result<()> {
-    text(rt, title)?;
-    number(rt, b"refused ", n)?;
-    number(rt, b" at ", place.0)
+pub fn refused(rt: &impl Print, title: &str, number: usize, place: Place) -> io::Result<()> {
+    print!(rt; "{title}refused {number} at {}", place.0)
 }

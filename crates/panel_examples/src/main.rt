@@ -16,108 +16,68 @@ mod packeted;
 mod recordings;
 mod updates;
 
-use example_panels::{Example, Told, nothing_known, panel_of, told};
-use example_text::{Word, character};
+use example_panels::{Bytes, Example, Section, told};
+use example_text::{Word, run_examples};
 use feed::{Feed, opened};
-use input::{Input, Stream, failed, read_input};
 use panel::Panel;
 use std::io;
 use std::process::ExitCode;
 
-// A byte more than is taken shows that the input is longer.
-fn main(rt: HostRuntime) -> ExitCode {
-    let mut stream = Stream::new(rt.stdin());
-    let mut buffer = buffer();
-    let mut memory = room();
-    match read_input(&mut stream, &mut buffer) {
-        Input::Whole(n) => status(&rt, run(&rt, &buffer[..n], &mut memory)),
-        Input::Full => too_long(&rt),
-        Input::Failed => {
-            let what = "panel_examples: the input could not be read to its end";
-            failed(&rt, what, stream.error)
-        }
-    }
-}
-
-// Room for the input. A function of its own, since a proof that sees so long a row counts it.
-fn buffer() -> [u8; 65536] {
-    [0u8; 65536]
-}
-
 // Room for the bytes of a line.
-fn room() -> [u8; 65600] {
-    [0u8; 65600]
-}
+const ROOM: usize = 65600;
 
-fn too_long(rt: &impl Eprint) -> ExitCode {
-    let _ = eprintln!(rt; "panel_examples: the input is longer than 65,535 bytes");
-    ExitCode::SUCCESS
-}
-
-fn status(rt: &impl Eprint, written: io::Result<()>) -> ExitCode {
-    match written {
-        Ok(()) => ExitCode::SUCCESS,
-        Err(e) => {
-            let what = "panel_examples: the output could not be written whole";
-            failed(rt, what, Some(e))
-        }
-    }
+fn main(rt: HostRuntime) -> ExitCode {
+    run_examples(
+        &rt,
+        "panel_examples",
+        rt.stdin(),
+        |examples| run(&rt, examples),
+    )
 }
 
 // What is told and what is kept are values of their own, beside what was read, so that only what changes them is about them.
-fn run(rt: &impl Print, examples: &[u8], memory: &mut [u8]) -> io::Result<()> {
+fn run(rt: &impl Print, examples: &[u8]) -> io::Result<()> {
     let mut word = Word::new();
-    let mut example = Example::new(0, 0);
-    let mut knows = nothing_known();
-    let mut feed = opened(panel::nothing_known());
+    let mut example = Example::new(Section::Packets, 0);
+    let mut bytes = Bytes::<ROOM>::new();
+    let mut knows = panel::nothing_known();
+    let mut feed = opened(knows);
     for c in examples {
         let c = *c;
         if word.ends(c) {
-            knows = told(knows, example, word);
-            example = example.with(word, memory);
+            told(&mut knows, &example, word);
+            example.read(word, &mut bytes);
             word = Word::new();
         } else {
-            word = word.with(c);
+            word.read(c);
         }
         if c == b'\n' {
-            feed = ended(rt, feed, example, knows, memory)?;
+            feed = ended(rt, feed, &example, knows, bytes.as_slice())?;
             example = Example::new(example.section, example.part);
+            bytes.clear();
         }
-        character(rt, c)?;
+        rt.write_all(&[c])?;
     }
     Ok(())
 }
 
-// A line that has begun is run where it ends.
+// A line that has begun is run where it ends. Where no packets are taken, what was told is what a packet behind the line would start from.
 fn ended(
     rt: &impl Print,
     feed: Feed,
-    example: Example,
-    knows: Told,
-    memory: &[u8],
-) -> io::Result<Feed> {
-    if example.begun {
-        comes_to(rt, feed, example, panel_of(knows), example.bytes(memory))
-    } else {
-        Ok(feed)
-    }
-}
-
-// Where no packets are taken, what was told is what a packet behind the line would start from.
-fn comes_to(
-    rt: &impl Print,
-    feed: Feed,
-    example: Example,
+    example: &Example,
     panel: Panel,
     bytes: &[u8],
 ) -> io::Result<Feed> {
-    let section = example.section;
-    match section {
-        b'e' => events::run(rt, example.part, panel, bytes)?,
-        b'r' => recordings::run(rt, example, panel, bytes)?,
-        b'u' => updates::run(rt, example, panel, bytes)?,
-        b't' => example_temperatures::run(rt, example, panel, bytes)?,
-        _ => return packeted::run(rt, example, feed, panel, bytes),
+    if example.begins.is_none() {
+        return Ok(feed);
+    }
+    match example.section {
+        Section::Events => events::run(rt, example.part, panel, bytes)?,
+        Section::Recordings => recordings::run(rt, example, panel, bytes)?,
+        Section::Updates => updates::run(rt, example, panel, bytes)?,
+        Section::Temperatures => example_temperatures::run(rt, example, panel, bytes)?,
+        Section::Packets => return packeted::run(rt, example, feed, panel, bytes),
     }
     Ok(opened(panel))
 }

@@ -9,9 +9,9 @@
 // refusal, if there are any; and the answer to closing then, which changes nothing.
 use crate::in_words::answered;
 use account::{count_of, held, joined};
-use example_panels::{Example, show_known};
-use example_text::{Word, bytes, number, text};
-use feed::{Answer, Feed, Kept, Unfinished, closed};
+use example_panels::{Begins, Example, write_known_panel};
+use example_text::{Hex, Word};
+use feed::{Account, Answer, Feed, Refused, Unfinished, closed};
 use packets::taken;
 use panel::Panel;
 use std::io;
@@ -19,15 +19,14 @@ use terms::Place;
 
 pub fn run(
     rt: &impl Print,
-    example: Example,
+    example: &Example,
     feed: Feed,
     panel: Panel,
     bytes: &[u8],
 ) -> io::Result<Feed> {
-    let after = if example.packet {
-        takes(rt, example.part, feed, bytes)?
-    } else {
-        begins(example, panel, bytes)
+    let after = match example.begins {
+        Some(Begins::Packet) => takes(rt, example.part, feed, bytes)?,
+        _ => begins(example, panel, bytes),
     };
     keeps(rt, example.part, after)?;
     Ok(after)
@@ -36,78 +35,68 @@ pub fn run(
 fn takes(rt: &impl Print, part: u8, feed: Feed, packet: &[u8]) -> io::Result<Feed> {
     let taken = taken(part, feed, packet);
     let answer = taken.answer;
-    answered(rt, b"\n    packet ", answer)?;
+    answered(rt, "\n    packet ", answer)?;
     Ok(taken.feed)
 }
 
-fn begins(example: Example, panel: Panel, bytes: &[u8]) -> Feed {
+fn begins(example: &Example, panel: Panel, bytes: &[u8]) -> Feed {
     Feed {
         panel,
-        unfinished: unfinished_of(bytes),
-        total: (example.start.number % 4294967296) as u32,
-        kept: kept_of(example.refusal),
+        account: Account {
+            unfinished: unfinished_of(bytes),
+            total: (example.start.unwrap_or(0) % 0x1_0000_0000) as u32,
+            kept: kept_of(example.refusal),
+        },
     }
 }
 
 fn unfinished_of(bytes: &[u8]) -> Unfinished {
-    if bytes.len() <= 4 {
-        held(bytes)
-    } else {
-        held(&bytes[..4])
-    }
+    held(bytes.get(..4).unwrap_or(bytes))
 }
 
-fn kept_of(refusal: Word) -> Kept {
-    if refusal.name == 0 {
-        Kept::None
-    } else {
-        Kept::Refused(numbered(refusal.at, Place(refusal.number)))
-    }
+fn kept_of(refusal: Option<Word>) -> Option<Answer> {
+    refusal.map(|word| numbered(word.at, Place(word.number)))
 }
 
 // The answer of a number; 0 also for numbers that there are none of.
 fn numbered(number: usize, place: Place) -> Answer {
     match number {
-        1 => Answer::NoPart(place),
-        2 => Answer::OutOfRange(place),
-        3 => Answer::BeyondEnd(place),
-        4 => Answer::TooLong(place),
-        5 => Answer::Unlisted(place),
-        6 => Answer::Foreign(place),
-        7 => Answer::CutShort(place),
-        8 => Answer::Forbidden(place),
-        _ => Answer::Done(place),
+        1 => Err(Refused::NoPart(place)),
+        2 => Err(Refused::OutOfRange(place)),
+        3 => Err(Refused::BeyondEnd(place)),
+        4 => Err(Refused::TooLong(place)),
+        5 => Err(Refused::Unlisted(place)),
+        6 => Err(Refused::Foreign(place)),
+        7 => Err(Refused::CutShort(place)),
+        8 => Err(Refused::Forbidden(place)),
+        _ => Ok(place),
     }
 }
 
 fn keeps(rt: &impl Print, part: u8, feed: Feed) -> io::Result<()> {
-    show_known(rt, part, feed.panel, false, false)?;
-    let unfinished = feed.unfinished;
-    shows(rt, unfinished)?;
-    number(rt, b", total ", feed.total as usize)?;
-    let kept = feed.kept;
-    stands(rt, kept)?;
-    answered(rt, b"\n    closing ", closed(part, feed))
+    write_known_panel(rt, part, &feed.panel, false)?;
+    shows(rt, feed.account.unfinished)?;
+    print!(rt; ", total {}", feed.account.total)?;
+    stands(rt, feed.account.kept)?;
+    answered(rt, "\n    closing ", closed(part, feed))
 }
 
 fn shows(rt: &impl Print, unfinished: Unfinished) -> io::Result<()> {
-    text(rt, b"\n    unfinished")?;
-    let count = count_of(unfinished);
-    if count == 0 {
-        text(rt, b" nothing")
-    } else {
-        row(rt, unfinished, count)
+    print!(rt; "\n    unfinished")?;
+    match count_of(unfinished) {
+        0 => print!(rt; " nothing"),
+        count => row(rt, unfinished, count),
     }
 }
 
 fn row(rt: &impl Print, unfinished: Unfinished, count: usize) -> io::Result<()> {
     let row = joined(unfinished, b"");
-    bytes(rt, &row, count)
+    print!(rt; "{}", Hex(row.get(..count).unwrap_or(&row)))
 }
 
-fn stands(rt: &impl Print, kept: Kept) -> io::Result<()> {
+fn stands(rt: &impl Print, kept: Option<Answer>) -> io::Result<()> {
     match kept {
-        Kept::None => Ok(()),
-        Kept::Refused(answer) => answered(rt, b", standing ", answer),
+        None => Ok(()),
+        Some(answer) => answered(rt, ", standing ", answer),
     }
 }

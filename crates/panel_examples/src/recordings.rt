@@ -11,19 +11,19 @@
 // end, length and first 16 bytes. Where the part byte names no part, or one of the last three words stands in the line, both halves of the knowledge
 // are shown, so that one sees what a refusal leaves as it was.
 use crate::in_words::answered;
-use example_panels::{Example, show_known};
-use example_text::{bytes, character, number, text};
+use example_panels::{Example, write_known_panel};
+use example_text::Hex;
 use panel::Panel;
 use std::io;
 use tail::Found;
 use terms::Place;
 
-pub fn run(rt: &impl Print, example: Example, before: Panel, recording: &[u8]) -> io::Result<()> {
+pub fn run(rt: &impl Print, example: &Example, before: Panel, recording: &[u8]) -> io::Result<()> {
     let part = example.part;
-    let replayed = replay::replay(part, before, recording, Place(example.start.number));
+    let replayed = replay::replay(part, before, recording, Place(example.start.unwrap_or(0)));
     let answer = replayed.answer;
-    answered(rt, b"\n    replay ", answer)?;
-    show_known(rt, part, replayed.panel, example.worded, false)?;
+    answered(rt, "\n    replay ", answer)?;
+    write_known_panel(rt, part, &replayed.panel, example.worded)?;
     tails(rt, part, recording)
 }
 
@@ -34,18 +34,15 @@ fn tails(rt: &impl Print, part: u8, recording: &[u8]) -> io::Result<()> {
 
 fn found(rt: &impl Print, found: Found) -> io::Result<()> {
     let answer = found.answer;
-    answered(rt, b"\n    tail ", answer)?;
-    number(rt, b", from ", found.start.0)?;
-    number(rt, b" to ", found.end.0)
+    answered(rt, "\n    tail ", answer)?;
+    print!(rt; ", from {} to {}", found.start.0, found.end.0)
 }
 
 // How long a tail is, and its first bytes: a long one would hide the rest.
 fn first(rt: &impl Print, tail: &[u8]) -> io::Result<()> {
-    number(rt, b", length ", tail.len())?;
-    character(rt, b':')?;
-    bytes(rt, tail, 16)?;
-    if 16 < tail.len() {
-        text(rt, b" ..")?;
+    let length = tail.len();
+    match tail.get(..16) {
+        Some(first) if 16 < length => print!(rt; ", length {length}:{} ..", Hex(first)),
+        _ => print!(rt; ", length {length}:{}", Hex(tail)),
     }
-    Ok(())
 }

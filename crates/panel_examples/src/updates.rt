@@ -9,34 +9,27 @@
 ghost use Rattle.std.specs.Prelude.{◌≤◌};
 
 use crate::in_words::{answered, refused};
-use example_panels::{Example, show_known};
-use example_text::{bytes, character, number, text};
+use example_panels::{Example, write_known_panel};
+use example_text::Hex;
 use panel::Panel;
 use std::io;
 use terms::Place;
-use updater::{Updated, refresh};
-use writing::words;
+use updater::{NotUpdated, refresh};
 
-pub fn run(rt: &impl Print, example: Example, panel: Panel, given: &[u8]) -> io::Result<()> {
+pub fn run(rt: &impl Print, example: &Example, panel: Panel, given: &[u8]) -> io::Result<()> {
     let mut wanted = [0x6E; 36];
-    words(&mut wanted, 0, given);
+    for (cell, byte) in wanted.iter_mut().zip(given) {
+        *cell = *byte;
+    }
     let mut out = [0xA5; 112];
     let room = room_of(example);
     updates(rt, example.part, panel, wanted, &mut out[..room])
 }
 
-fn room_of(example: Example) -> usize
+fn room_of(example: &Example) -> usize
     ensures { result ≤ 112 }
 {
-    let start = example.start;
-    if start.name != b'@' {
-        return 112;
-    }
-    if start.number < 112 {
-        start.number
-    } else {
-        112
-    }
+    example.start.unwrap_or(112).min(112)
 }
 
 fn updates(
@@ -47,15 +40,14 @@ fn updates(
     out: &mut [u8],
 ) -> io::Result<()> {
     let refreshed = refresh(part, panel, wanted, out);
-    let answer = refreshed.answer;
-    match answer {
-        Updated::Done(place, count) => {
-            sent(rt, part, panel, place.0, count, out)?;
-            show_known(rt, part, refreshed.panel, false, false)
+    match refreshed.answer {
+        Ok(size) => {
+            sent(rt, part, panel, size.length.0, size.wire, out)?;
+            write_known_panel(rt, part, &refreshed.panel, false)
         }
-        Updated::NoPart(place) => refuses(rt, 1, place, out),
-        Updated::OutOfRange(place) => refuses(rt, 2, place, out),
-        Updated::TooSmall(place) => refuses(rt, 10, place, out),
+        Err(NotUpdated::NoPart(place)) => refuses(rt, 1, place, out),
+        Err(NotUpdated::OutOfRange(place)) => refuses(rt, 2, place, out),
+        Err(NotUpdated::TooSmall(place)) => refuses(rt, 10, place, out),
     }
 }
 
@@ -67,38 +59,28 @@ fn sent(
     count: usize,
     out: &[u8],
 ) -> io::Result<()> {
-    number(rt, b"\n    update done at ", length)?;
+    print!(rt; "\n    update done at {length}")?;
     wire(rt, count, length, out)?;
     let replayed = replay::replay(part, panel, front(out, length), Place(0));
     let answer = replayed.answer;
-    answered(rt, b"\n    replay ", answer)
+    answered(rt, "\n    replay ", answer)
 }
 
 fn refuses(rt: &impl Print, n: usize, place: Place, out: &[u8]) -> io::Result<()> {
-    refused(rt, b"\n    update ", n, place)?;
+    refused(rt, "\n    update ", n, place)?;
     wire(rt, 0, 0, out)
 }
 
 // The wire bytes, the stream, and how many bytes behind it are as they were.
 fn wire(rt: &impl Print, count: usize, length: usize, out: &[u8]) -> io::Result<()> {
-    number(rt, b", wire ", count)?;
-    character(rt, b':')?;
-    bytes(rt, out, length)?;
-    number(rt, b", behind ", unchanged(out, length))?;
-    text(rt, b" as before")
+    let (stream, behind) = out.split_at(length.min(out.len()));
+    let unchanged = behind.iter().take_while(|byte| **byte == 0xA5).count();
+    print!(rt;
+        ", wire {count}:{}, behind {unchanged} as before",
+        Hex(stream)
+    )
 }
 
 fn front(out: &[u8], length: usize) -> &[u8] {
-    if length <= out.len() {
-        &out[..length]
-    } else {
-        out
-    }
-}
-
-fn unchanged(out: &[u8], from: usize) -> usize {
-    out.iter()
-        .skip(from)
-        .take_while(|byte| **byte == 0xA5)
-        .count()
+    out.get(..length).unwrap_or(out)
 }

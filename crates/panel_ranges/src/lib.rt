@@ -10,22 +10,13 @@ use panel::Panel;
 use segment::Family;
 use terms::Part;
 
-// Every known value is in its fact's range. Only the half that is tested is copied.
-pub fn in_range(part: Part, panel: Panel) -> bool
-    ensures { Tests result (Sound (range part) (known_of part panel)) }
+// Every known value is in its fact's range. The panel is lent, so that only the half that is tested is copied.
+pub fn in_range(part: Part, panel: &Panel) -> bool
+    ensures { Tests result (Sound (range part) (known_of part panel.now)) }
 {
     match part {
-        Part::Pt6302 => {
-            let k = panel.character;
-            character_ranges::sound(k)
-        }
-        Part::Pt6312 => {
-            let k = panel.segment;
-            segment_ranges::sound(Family::Pt6312, k)
-        }
-        Part::Pt6315 => {
-            let k = panel.segment;
-            segment_ranges::sound(Family::Pt6315, k)
-        }
+        Part::Pt6302 => character_ranges::sound(panel.character),
+        Part::Pt6312 => segment_ranges::sound(Family::Pt6312, panel.segment),
+        Part::Pt6315 => segment_ranges::sound(Family::Pt6315, panel.segment),
     }
 }

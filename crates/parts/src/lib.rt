@@ -16,12 +16,15 @@ pub enum Kind {
     Segment(Family),
 }
 
-pub fn kind_of(part: Part) -> Kind
-    ensures { part ≡ part_is result }
-{
-    match part {
-        Part::Pt6302 => Kind::Character,
-        Part::Pt6312 => Kind::Segment(Family::Pt6312),
-        Part::Pt6315 => Kind::Segment(Family::Pt6315),
+// Whose numbers a part goes by.
+impl From<Part> for Kind {
+    ghost from_gives = { λ part kind. part ≡ part_is kind };
+
+    fn from(part: Part) -> Kind {
+        match part {
+            Part::Pt6302 => Kind::Character,
+            Part::Pt6312 => Kind::Segment(Family::Pt6312),
+            Part::Pt6315 => Kind::Segment(Family::Pt6315),
+        }
     }
 }

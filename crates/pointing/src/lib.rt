@@ -4,9 +4,9 @@
 ghost use Rattle.std.specs.Prelude.{◌≡◌, ◌+◌, ◌<◌, length, get_or};
 ghost use Rattle.recording.specs.Record.{place_within};
 ghost use Rattle.recording.specs.declared.Refusal.TheVariants.{Forbidden};
-ghost use Rattle.recording.specs.declared.Ending.TheVariants.{Stops};
+ghost use Rattle.recording.specs.Walk.{stop_of};
 
-use recording::{Ending, Refusal};
+use recording::{Refusal, Stop};
 use terms::Place;
 
 // The place of a refusal, where the record that is none starts at the place `first`. The kind is looked at for every refusal: so compiled, a walk takes
@@ -26,12 +26,12 @@ pub fn place_of(refusal: Refusal, bytes: &[u8], first: Place) -> Place
 }
 
 // How a walk over records ends there.
-pub fn stops_at(refusal: Refusal, bytes: &[u8], first: Place) -> Ending
+pub fn stops_at(refusal: Refusal, bytes: &[u8], first: Place) -> Stop
     requires { first.0 + place_within refusal (get_or bytes.now first.0 0) < length bytes.now }
-    ensures { result ≡ Stops refusal (record { 0 = first.0 + place_within refusal (get_or bytes.now first.0 0) }) }
+    ensures { result ≡ stop_of refusal (record { 0 = first.0 + place_within refusal (get_or bytes.now first.0 0) }) }
 {
     let at = place_of(refusal, bytes, first);
-    Ending::Stops(refusal, at)
+    Stop { refusal, at }
 }
 
 // How far behind the kind the body byte at fault stands.

@@ -1,21 +1,22 @@
 -- What a call of read tells (POSIX's page of read): a count above 0 is how many bytes came, 0 is the end of the
 -- input, and any failure but an interruption is a failure of the whole.
-use Rattle.std.specs.Prelude.{ℕ, zero, suc, Bool, true, false, eqb, ℤ, pos, negsuc}
+use Rattle.std.specs.Prelude.{ℕ, zero, suc, ◌≡◌, ◌≢◌, ◌⊎◌, Result, Ok, Err}
+use Rattle.std.specs.declared.io.ErrorKind.{ErrorKind}
+use Rattle.std.specs.declared.io.ErrorKind.TheVariants as Kind
 use Rattle.read_answer.specs.declared.Input.TheVariants.{Whole, Failed}
 use Rattle.read_answer.specs.declared.Next.{Next}
 use Rattle.read_answer.specs.declared.Next.TheVariants.{Came, Interrupted, Over}
 
--- EINTR is 4.
-abbrev pub interrupted? : ℤ → Bool
-interrupted? (pos error) = eqb error 4
-interrupted? (negsuc error) = false
+-- By the count, and how many bytes came before.
+abbrev pub counted : ℕ → ℕ → Next
+counted zero before = Over (Whole before)
+counted (suc n) before = Came (suc n)
 
-abbrev pub failing : Bool → Next
-failing true = Interrupted
-failing false = Over Failed
+-- By the kind of the failure.
+abbrev pub Fails : ErrorKind → Next → Type 0
+Fails kind r = ((kind ≡ Kind.Interrupted) × (r ≡ Interrupted)) ⊎ ((kind ≢ Kind.Interrupted) × (r ≡ Over Failed))
 
--- By the answer, errno, and how many bytes came before.
-abbrev pub told_by : ℤ → ℤ → ℕ → Next
-told_by (pos zero) error before = Over (Whole before)
-told_by (pos (suc n)) error before = Came (suc n)
-told_by (negsuc n) error before = failing (interrupted? error)
+-- By the answer, and how many bytes came before.
+abbrev pub Tells : Result ℕ ErrorKind → ℕ → Next → Type 0
+Tells (Ok n) before r = r ≡ counted n before
+Tells (Err kind) before r = Fails kind r

@@ -1,12 +1,11 @@
 // What a call of read answers, and what that tells of the input.
 #![tactic(auto)]
 
-ghost use Rattle.std.specs.Prelude.{◌≡◌};
-ghost use Rattle.read_answer.specs.Answer.{told_by};
+ghost use Rattle.read_answer.specs.Answer.{Tells};
 
-// errno of a call that a signal interrupted.
-pub const EINTR: i32 = 4;
+use std::io::ErrorKind;
 
+// No plainer as a Result: a full buffer is neither the whole input nor a failure.
 #[derive(Clone, Copy)]
 pub enum Input {
     // The input is read to its end: so many bytes stand at the front of the buffer.
@@ -17,6 +16,7 @@ pub enum Input {
     Failed,
 }
 
+// No plainer as a Result: an interruption is neither bytes nor the end.
 #[derive(Clone, Copy)]
 pub enum Next {
     // So many more bytes came, and not none.
@@ -27,18 +27,14 @@ pub enum Next {
     Over(Input),
 }
 
-// By the answer, errno after the call, and how many bytes came before it. Only the answer 0 is the end of the input.
-pub fn told(answer: isize, error: i32, before: usize) -> Next
-    ensures { result ≡ told_by answer error before }
+// By what the call answered, and how many bytes came before it. Only a call that gives no byte and no error is the end of the input.
+pub fn told(answer: Result<usize, ErrorKind>, before: usize) -> Next
+    ensures { Tells answer before result }
 {
-    if answer > 0 {
-        return Next::Came(answer as usize);
+    match answer {
+        Ok(0) => Next::Over(Input::Whole(before)),
+        Ok(count) => Next::Came(count),
+        Err(ErrorKind::Interrupted) => Next::Interrupted,
+        Err(_) => Next::Over(Input::Failed),
     }
-    if answer == 0 {
-        return Next::Over(Input::Whole(before));
-    }
-    if error == EINTR {
-        return Next::Interrupted;
-    }
-    Next::Over(Input::Failed)
 }

@@ -1,7 +1,7 @@
 -- What holds of an answer of `temperature`, as a caller has it: of the byte of PT6302 and of what `temperature` promises.
 -- The argument: a reading comes only with number 0, and then it is what is told of the field; the rest is `Told`, over
 -- bytes. A byte is known where each of its eight bits is, and bytes with the same bits are equal.
-use Rattle.std.specs.Prelude.{ℕ, ◌+◌, ◌≤◌, ◌<◌, ◌≡◌, refl, Bool, true, false, ◌||◌, ℤ, pos, eqb, Float}
+use Rattle.std.specs.Prelude.{ℕ, ◌+◌, ◌≤◌, ◌<◌, ◌≡◌, refl, Bool, true, false, ◌||◌, ℤ, pos, eqb, Float, Ok, Err}
 use Rattle.std.proofs.Common.{arith, sym, ap, ◌∙◌, subst, true≢false, eq-eqb, ltb-false, le-ltb}
 use Rattle.std.proofs.Math.Path.{subst⁻¹}
 use Rattle.std.specs.Float.{fin, binary32}
@@ -13,10 +13,8 @@ use Rattle.knowing.specs.Standing.{Standing, known, Agrees, Fits, Within, Sound}
 use Rattle.knowing.specs.Standing as Of
 use Rattle.knowing.specs.Holds.{is_known, is_known_lem, holds}
 use Rattle.knowing.specs.Bytes.{holds_tests, spelt_in, in_spelt, bit_unknown, in_more}
-use Rattle.terms.specs.Part.{part_of}
+use Rattle.terms.specs.Part.{PartRead, part_of}
 use Rattle.terms.specs.declared.Part.TheVariants.{Pt6302, Pt6312, Pt6315}
-use Rattle.terms.specs.declared.PartRead.{PartRead}
-use Rattle.terms.specs.declared.PartRead.TheVariants.{Is, Refused}
 use Rattle.character.specs.declared.Lights.TheVariants.{Normal, Off, On}
 use Rattle.character.specs.Value.{lit}
 use Rattle.character.specs.Fact.{Fact, range, dcram, lights, digits}
@@ -245,13 +243,13 @@ exact_sound k start r f e (good sound (bad n a)) = absurd (let z = sym a.numbere
 exact_sound k start r f e (bad n a) = absurd (let z = sym a.numbered ∙ ap number e in omega arith)
 
 pub answer_halved : (q : PartRead) (k : Panel) (start : ℕ) (r : Answer) → Tells q k start r → (f : Float) → r ≡ Reading f → Halved f
-answer_halved (Is Pt6302) k start r met f e =
+answer_halved (Ok Pt6302) k start r met f e =
     let x = exact_sound (known_of Pt6302 k) start r f e met in
     let few = x.few in
     record { negative = few.negative; halves = few.size; few = let m = few.most in omega arith; exact = subst (InHalves f) few.is x.float }
-answer_halved (Is Pt6312) k start r met f e = absurd (let z = sym met.numbered ∙ ap number e in omega arith)
-answer_halved (Is Pt6315) k start r met f e = absurd (let z = sym met.numbered ∙ ap number e in omega arith)
-answer_halved (Refused at) k start r met f e = absurd (let z = sym met.numbered ∙ ap number e in omega arith)
+answer_halved (Ok Pt6312) k start r met f e = absurd (let z = sym met.numbered ∙ ap number e in omega arith)
+answer_halved (Ok Pt6315) k start r met f e = absurd (let z = sym met.numbered ∙ ap number e in omega arith)
+answer_halved (Err x) k start r met f e = absurd (let z = sym met.numbered ∙ ap number e in omega arith)
 
 -- Where one bit of the five cells is not known, nothing is told of a field that is not known to be dark.
 bit_told : (k : Fact → Standing) (start i j : ℕ) → i < 5 → j < 8 → k (dcram (start + i) j) ≡ Of.unknown → is_dark (k lights) (k digits) start ≡ false
@@ -272,9 +270,9 @@ wholly c f = known (c f)
 fits_less : (k : Fact → Standing) (c : Fact → ℕ) → Fits k c → KnowsAtLeast k (wholly c)
 fits_less k c fits f v e = ap known (subst (λ (x : Standing). Agrees x (c f)) e (fits f))
 
-module _ (b : ℕ) (named : part_of b ≡ Is Pt6302) (k : Panel) (start : ℕ) (r : Answer) (met : Tells (part_of b) k start r) where
+module _ (b : ℕ) (named : part_of b ≡ Ok Pt6302) (k : Panel) (start : ℕ) (r : Answer) (met : Tells (part_of b) k start r) where
   promised : TellsSound (known_of Pt6302 k) start r
-  promised = tells_as (part_of b) (Is Pt6302) k start r named met
+  promised = tells_as (part_of b) (Ok Pt6302) k start r named met
 
   -- "The f32 is exact."
   pub reading_exact : (f : Float) → r ≡ Reading f → ExactReading (known_of Pt6302 k) start f
@@ -347,7 +345,7 @@ module _ (b : ℕ) (named : part_of b ≡ Is Pt6302) (k : Panel) (start : ℕ) (
       → Sound range (known_of Pt6302 k') → KnowsAtLeast (known_of Pt6302 k) (known_of Pt6302 k')
       → (Says r unknown → ⊥) → r' ≡ r
   more_keeps k' r' met' fit fit' sound' least n =
-      go (same_told (known_of Pt6302 k') least n promised) (tells_as (part_of b) (Is Pt6302) k' start r' named met')
+      go (same_told (known_of Pt6302 k') least n promised) (tells_as (part_of b) (Ok Pt6302) k' start r' named met')
     where
       go : (start ≤ 11) × Answers 0 (temperature_of (known_of Pt6302 k') start) r → TellsSound (known_of Pt6302 k') start r' → r' ≡ r
       go (few, a) (good _ (good _ q)) = same_said k' start r' r fit' fit _ q a

@@ -1,19 +1,15 @@
 -- More bytes behind a record, and a walk from another place. The argument: a record looks at no byte past its end, and
 -- a walk nowhere but at the bytes before it.
-use Rattle.std.specs.Prelude.{ℕ, zero, suc, ◌+◌, ◌<◌, ◌≤◌, ◌≡◌, refl, List, [], ◌∷◌, ◌++◌, Bool, true, false, length, drop, get_or, ltb}
+use Rattle.std.specs.Prelude.{ℕ, zero, suc, ◌+◌, ◌<◌, ◌≤◌, ◌≡◌, refl, List, [], ◌∷◌, ◌++◌, Bool, true, false, length, drop, get_or, ltb, Ok, Err}
 use Rattle.std.proofs.Common.{arith, sym, ap, ◌∙◌, length-append, ltb-true, lt-ltb}
 use Rattle.std.proofs.Math.Path.{subst⁻¹}
 use Rattle.rules.specs.Choice.{whether}
 use Rattle.terms.specs.declared.Event.{Event}
 use Rattle.terms.specs.declared.Event.TheVariants.{ByteOut}
 use Rattle.terms.specs.declared.Part.{Part}
-use Rattle.recording.specs.declared.Read.{Read}
-use Rattle.recording.specs.declared.Read.TheVariants.{Is, Refused}
 use Rattle.recording.specs.declared.Refusal.TheVariants.{Unlisted, Foreign, CutShort, Forbidden}
-use Rattle.recording.specs.declared.Ending.{Ending}
-use Rattle.recording.specs.declared.Ending.TheVariants.{Done, Stops}
-use Rattle.recording.specs.Record.{listed, belongs, body_of, of_body, of_kind, front, place_within}
-use Rattle.recording.specs.Walk.{Walk, step, walk, events, end_of}
+use Rattle.recording.specs.Record.{listed, belongs, body_of, of_body, of_kind, front, place_within, Read, record_of}
+use Rattle.recording.specs.Walk.{Walk, step, walk, events, end_of, Ending, stop_of}
 use Rattle.recording.specs.Laws.{other_body}
 use Rattle.recording.specs.Steps.{stops_there}
 
@@ -30,7 +26,7 @@ same_body p (suc (suc (suc (suc (suc (suc (suc zero))))))) l m h = rw (h 1 (omeg
 same_body p (suc (suc (suc (suc (suc (suc (suc (suc zero)))))))) l m h = rw (h 1 (omega arith)) refl
 same_body p (suc (suc (suc (suc (suc (suc (suc (suc (suc n))))))))) l m h = other l ∙ sym (other m)
   where
-    other : (x : List ℕ) → of_body p (suc (suc (suc (suc (suc (suc (suc (suc (suc n))))))))) x ≡ Is ByteOut 1
+    other : (x : List ℕ) → of_body p (suc (suc (suc (suc (suc (suc (suc (suc (suc n))))))))) x ≡ Ok (record_of ByteOut 1)
     other x = other_body p (suc (suc (suc (suc (suc (suc (suc (suc (suc n))))))))) x (λ e. omega arith) (λ e. omega arith) (λ e. omega arith) (λ e. omega arith) (λ e. omega arith) (λ e. omega arith) (λ e. omega arith) (λ e. omega arith)
 
 pub get_d_append : (l m : List ℕ) (j : ℕ) → j < length l → get_or l j 0 ≡ get_or (l ++ m) j 0
@@ -40,19 +36,19 @@ get_d_append (x ∷ l) m (suc j) h = get_d_append l m j (omega arith)
 
 -- Told by the bytes that are there: a record, or none whatever follows.
 abbrev pub Told : Read → Type 0
-Told (Is e n) = Unit
-Told (Refused Unlisted) = Unit
-Told (Refused Foreign) = Unit
-Told (Refused CutShort) = ⊥
-Told (Refused Forbidden) = Unit
+Told (Ok it) = Unit
+Told (Err Unlisted) = Unit
+Told (Err Foreign) = Unit
+Told (Err CutShort) = ⊥
+Told (Err Forbidden) = Unit
 
 -- By the tests in their order.
 kind_append : (p : Part) (k : ℕ) (l m : List ℕ) (r : Read) → Told r → (body_of k < length l → of_body p k l ≡ of_body p k (l ++ m)) → of_kind p k l ≡ r → of_kind p k (l ++ m) ≡ r
 kind_append p k l m r told same = go (listed k) (belongs p k) (ltb (body_of k) (length l)) refl
   where
     go : (a b t : Bool) → ltb (body_of k) (length l) ≡ t
-        → whether a (whether b (whether t (of_body p k l) (Refused CutShort)) (Refused Foreign)) (Refused Unlisted) ≡ r
-        → whether a (whether b (whether (ltb (body_of k) (length (l ++ m))) (of_body p k (l ++ m)) (Refused CutShort)) (Refused Foreign)) (Refused Unlisted) ≡ r
+        → whether a (whether b (whether t (of_body p k l) (Err CutShort)) (Err Foreign)) (Err Unlisted) ≡ r
+        → whether a (whether b (whether (ltb (body_of k) (length (l ++ m))) (of_body p k (l ++ m)) (Err CutShort)) (Err Foreign)) (Err Unlisted) ≡ r
     go true true true z q =
         let h = ltb-true (body_of k) (length l) z in
         let d = length-append l m in
@@ -68,12 +64,12 @@ front_append p l m r told some q =
 
 -- The places of the second recording are counted from the front of the first.
 abbrev pub shifted : ℕ → Ending → Ending
-shifted n Done = Done
-shifted n (Stops r at) = Stops r (record { 0 = n + at.0 })
+shifted n (Ok u) = Ok tt
+shifted n (Err s) = Err (stop_of s.refusal (record { 0 = n + s.at.0 }))
 
 pub shift_shift : (a b : ℕ) (e : Ending) → shifted a (shifted b e) ≡ shifted (a + b) e
-shift_shift a b Done = refl
-shift_shift a b (Stops r at) = stops_there r (record { 0 = a + (b + at.0) }) (a + b + at.0) (omega arith)
+shift_shift a b (Ok u) = refl
+shift_shift a b (Err s) = stops_there s.refusal (record { 0 = a + (b + s.at.0) }) (a + b + s.at.0) (omega arith)
 
 -- What one walk says that another does, the places shifted by `at`.
 pub record Follows (at : ℕ) (w v : Walk) : Type 0 where
@@ -89,10 +85,10 @@ from_place (suc n) p at (b ∷ l) = go (front p (b ∷ l)) (λ m i. from_place n
     go : (r : Read) → ((m i : ℕ) → Follows i (walk n p i (drop m (b ∷ l))) (walk n p 0 (drop m (b ∷ l))))
         → Follows at (step at b (λ m. walk n p (at + m) (drop m (b ∷ l))) r)
         (step 0 b (λ m. walk n p (0 + m) (drop m (b ∷ l))) r)
-    go (Is e m) ih = record {
-      same = ap (λ (es : List Event). e ∷ es) ((ih m (at + m)).same ∙ sym (ih m (0 + m)).same);
+    go (Ok it) ih = record {
+      same = ap (λ (es : List Event). it.event ∷ es) ((ih it.length (at + it.length)).same ∙ sym (ih it.length (0 + it.length)).same);
       ends =
-          let z : at + (0 + m) ≡ at + m = omega arith in
-          (ih m (at + m)).ends ∙ sym (ap (shifted at) (ih m (0 + m)).ends ∙ shift_shift at (0 + m) (end_of (walk n p 0 (drop m (b ∷ l)))) ∙ ap (λ (i : ℕ). shifted i (end_of (walk n p 0 (drop m (b ∷ l))))) z);
+          let z : at + (0 + it.length) ≡ at + it.length = omega arith in
+          (ih it.length (at + it.length)).ends ∙ sym (ap (shifted at) (ih it.length (0 + it.length)).ends ∙ shift_shift at (0 + it.length) (end_of (walk n p 0 (drop it.length (b ∷ l)))) ∙ ap (λ (i : ℕ). shifted i (end_of (walk n p 0 (drop it.length (b ∷ l))))) z);
     }
-    go (Refused x) ih = record { same = refl; ends = stops_there x (record { 0 = at + place_within x b }) (at + (0 + place_within x b)) (omega arith) }
+    go (Err x) ih = record { same = refl; ends = stops_there x (record { 0 = at + place_within x b }) (at + (0 + place_within x b)) (omega arith) }

@@ -1,12 +1,11 @@
 -- 8 points at the byte at fault. The argument: of each kind at most one body byte is looked at, and that is the one.
-use Rattle.std.specs.Prelude.{ℕ, suc, ◌+◌, ◌-◌, ◌<◌, ◌≡◌, refl, Bool, true, false, List, length, drop, get_or, eqb}
+use Rattle.std.specs.Prelude.{ℕ, suc, ◌+◌, ◌-◌, ◌<◌, ◌≡◌, refl, Bool, true, false, List, length, drop, get_or, eqb, Ok, Err}
 use Rattle.std.proofs.Common.{arith, sym, ap, ◌∙◌, length-drop, get_or-drop, eqb-true}
 use Rattle.rules.specs.Choice.{whether}
 use Rattle.terms.specs.declared.Event.{Event}
 use Rattle.terms.specs.declared.Part.{Part}
-use Rattle.recording.specs.declared.Read.TheVariants.{Is, Refused}
 use Rattle.recording.specs.declared.Refusal.TheVariants.{Forbidden}
-use Rattle.recording.specs.Record.{listed, belongs, body_of, allowed, event_of, of_body, front}
+use Rattle.recording.specs.Record.{listed, belongs, body_of, allowed, event_of, of_body, front, record_of}
 use Rattle.recording.specs.Laws.{kind_at, at_body}
 use Rattle.recording.specs.Tests.{Forbids, forbids}
 use Rattle.recording.specs.Points.{Points}
@@ -26,9 +25,9 @@ only_looked p kind b0 b3 = by (eqb kind 7) refl
 -- holds: as long as the kind and that byte stand, so does 8; and with an allowed value in that byte's place it is a record. The
 -- value stands for both bytes that `allowed` asks about, of which a kind looks at one.
 pub record Blames (p : Part) (l : List ℕ) (first at : ℕ) : Type 0 where
-  pub stands : (m : List ℕ) → length m ≡ length l → get_or m first 0 ≡ get_or l first 0 → get_or m at 0 ≡ get_or l at 0 → front p (drop first m) ≡ Refused Forbidden
+  pub stands : (m : List ℕ) → length m ≡ length l → get_or m first 0 ≡ get_or l first 0 → get_or m at 0 ≡ get_or l at 0 → front p (drop first m) ≡ Err Forbidden
   pub mends : (m : List ℕ) → length m ≡ length l → get_or m first 0 ≡ get_or l first 0 → allowed p (get_or l first 0) (get_or m at 0) (get_or m at 0) ≡ true
-      → (e : Event) × (front p (drop first m) ≡ Is e (suc (body_of (get_or l first 0))))
+      → (e : Event) × (front p (drop first m) ≡ Ok (record_of e (suc (body_of (get_or l first 0)))))
 
 module _ (p : Part) (l : List ℕ) (from at : ℕ) (h : Points p l from Forbidden at) where
   abbrev first : ℕ
@@ -71,8 +70,8 @@ module _ (p : Part) (l : List ℕ) (from at : ℕ) (h : Points p l from Forbidde
     abbrev e : Event
     e = event_of kind (get_or (drop first m) 1 0) (get_or (drop first m) 2 0) (get_or (drop first m) 3 0) (get_or (drop first m) 4 0)
 
-    by_byte : (b : Bool) → allowed p kind (get_or m at 0) (get_or m at 0) ≡ b → front p (drop first m) ≡ whether b (Is e (suc (body_of kind))) (Refused Forbidden)
-    by_byte b q = is_read ∙ ap (λ (x : Bool). whether x (Is e (suc (body_of kind))) (Refused Forbidden)) (seen m ∙ q)
+    by_byte : (b : Bool) → allowed p kind (get_or m at 0) (get_or m at 0) ≡ b → front p (drop first m) ≡ whether b (Ok (record_of e (suc (body_of kind)))) (Err Forbidden)
+    by_byte b q = is_read ∙ ap (λ (x : Bool). whether x (Ok (record_of e (suc (body_of kind)))) (Err Forbidden)) (seen m ∙ q)
 
   pub blames : Blames p l first at
   blames = record {

@@ -1,12 +1,10 @@
 -- What kinds have by their numbers, the record at a place, and the part from a place on.
-use Rattle.std.specs.Prelude.{ℕ, zero, suc, ◌+◌, ◌-◌, ◌<◌, ◌≤◌, ◌≡◌, refl, true, false, List, length, get_or, drop, take}
+use Rattle.std.specs.Prelude.{ℕ, zero, suc, ◌+◌, ◌-◌, ◌<◌, ◌≤◌, ◌≡◌, refl, true, false, List, length, get_or, drop, take, Ok, Err}
 use Rattle.std.proofs.Common.{zero-lt-suc, arith, sym, ap, ◌∙◌, length-drop, get_or-drop, take_all, ne_eqb, lt-ltb, le-ltb}
 use Rattle.terms.specs.declared.Event.TheVariants.{ByteOut}
 use Rattle.terms.specs.declared.Part.{Part}
-use Rattle.recording.specs.declared.Read.{Read}
-use Rattle.recording.specs.declared.Read.TheVariants.{Is, Refused}
 use Rattle.recording.specs.declared.Refusal.TheVariants.{Unlisted, Foreign, CutShort}
-use Rattle.recording.specs.Record.{listed, keyed, switched, belongs, body_of, of_unfinished, of_switches, of_keys, of_body, of_kind, front}
+use Rattle.recording.specs.Record.{listed, keyed, switched, belongs, body_of, of_unfinished, of_switches, of_keys, of_body, of_kind, front, Read, record_of}
 
 pub no_body : (k : ℕ) → ¬ (k ≡ 3) → ¬ (k ≡ 6) → ¬ (k ≡ 7) → ¬ (k ≡ 8) → body_of k ≡ 0
 no_body k three six seven eight = rw (ne_eqb k 7 seven, ne_eqb k 3 three, ne_eqb k 6 six, ne_eqb k 8 eight) refl
@@ -14,7 +12,7 @@ no_body k three six seven eight = rw (ne_eqb k 7 seven, ne_eqb k 3 three, ne_eqb
 pub no_inputs : (p : Part) (k : ℕ) → ¬ (k ≡ 7) → ¬ (k ≡ 8) → ¬ (k ≡ 9) → belongs p k ≡ true
 no_inputs p k seven eight nine = rw (ne_eqb k 7 seven, ne_eqb k 9 nine, ne_eqb k 8 eight) refl
 
-pub other_body : (p : Part) (k : ℕ) (l : List ℕ) → ¬ (k ≡ 1) → ¬ (k ≡ 2) → ¬ (k ≡ 3) → ¬ (k ≡ 4) → ¬ (k ≡ 5) → ¬ (k ≡ 6) → ¬ (k ≡ 7) → ¬ (k ≡ 8) → of_body p k l ≡ Is ByteOut 1
+pub other_body : (p : Part) (k : ℕ) (l : List ℕ) → ¬ (k ≡ 1) → ¬ (k ≡ 2) → ¬ (k ≡ 3) → ¬ (k ≡ 4) → ¬ (k ≡ 5) → ¬ (k ≡ 6) → ¬ (k ≡ 7) → ¬ (k ≡ 8) → of_body p k l ≡ Ok (record_of ByteOut 1)
 other_body p k l one two three four five six seven eight =
     rw (ne_eqb k 6 six, ne_eqb k 8 eight, ne_eqb k 7 seven, ne_eqb k 1 one, ne_eqb k 2 two, ne_eqb k 3 three, ne_eqb k 4 four, ne_eqb k 5 five) refl
 
@@ -42,13 +40,13 @@ module _ (p : Part) (l : List ℕ) (i : ℕ) where
   front_at : front p (drop i l) ≡ of_kind p kind (drop i l)
   front_at = ap (λ (k : ℕ). of_kind p k (drop i l)) (kind_at l i)
 
-  pub at_unlisted : listed kind ≡ false → Refused Unlisted ≡ front p (drop i l)
+  pub at_unlisted : listed kind ≡ false → Err Unlisted ≡ front p (drop i l)
   at_unlisted e = sym (front_at ∙ rw e refl)
 
-  pub at_foreign : listed kind ≡ true → belongs p kind ≡ false → Refused Foreign ≡ front p (drop i l)
+  pub at_foreign : listed kind ≡ true → belongs p kind ≡ false → Err Foreign ≡ front p (drop i l)
   at_foreign e f = sym (front_at ∙ rw (e, f) refl)
 
-  pub at_cut : listed kind ≡ true → belongs p kind ≡ true → length l - i ≤ body_of kind → Refused CutShort ≡ front p (drop i l)
+  pub at_cut : listed kind ≡ true → belongs p kind ≡ true → length l - i ≤ body_of kind → Err CutShort ≡ front p (drop i l)
   at_cut e f h = sym (front_at ∙ rw (e, f, le-ltb (body_of kind) (length (drop i l)) (rw (length-drop i l) h)) refl)
 
   pub at_body : (r : Read) → listed kind ≡ true → belongs p kind ≡ true → body_of kind < length l - i → r ≡ of_body p kind (drop i l) → r ≡ front p (drop i l)

@@ -1,14 +1,20 @@
 -- One record at the front of a row of bytes (paper 01, "The recording" and "Numbers given back").
-use Rattle.std.specs.Prelude.{ℕ, suc, Bool, true, false, ◌&&◌, ◌||◌, List, length, get_or, eqb, ltb}
+use Rattle.std.specs.Prelude.{ℕ, suc, Bool, true, false, ◌&&◌, ◌||◌, List, length, get_or, eqb, ltb, Result, Ok, Err}
 use Rattle.rules.specs.Choice.{whether}
 use Rattle.terms.specs.declared.Event.{Event}
 use Rattle.terms.specs.declared.Event.TheVariants.{Power, Falls, ByteIn, Rises, Gap, Unfinished, Keys, Switches, ByteOut}
 use Rattle.terms.specs.declared.Part.{Part}
 use Rattle.terms.specs.declared.Part.TheVariants.{Pt6302, Pt6312, Pt6315}
-use Rattle.recording.specs.declared.Read.{Read}
-use Rattle.recording.specs.declared.Read.TheVariants.{Is, Refused}
+use Rattle.recording.specs.declared.Record.{Record}
 use Rattle.recording.specs.declared.Refusal.{Refusal}
 use Rattle.recording.specs.declared.Refusal.TheVariants.{Unlisted, Foreign, CutShort, Forbidden}
+
+-- What a record is read as: its event and its length, or what refuses it.
+abbrev pub Read : Type 0
+Read = Result Record Refusal
+
+abbrev pub record_of : Event → ℕ → Record
+record_of e n = record { event = e; length = n }
 
 -- Kinds 01 to 09 are listed.
 abbrev pub listed : ℕ → Bool
@@ -65,20 +71,20 @@ event_of kind b0 b1 b2 b3 =
 
 -- What these bodies come to, by themselves.
 abbrev pub of_unfinished : ℕ → Read
-of_unfinished n = whether (bits_allowed n) (Is (Unfinished n) 2) (Refused Forbidden)
+of_unfinished n = whether (bits_allowed n) (Ok (record_of (Unfinished n) 2)) (Err Forbidden)
 
 abbrev pub of_switches : ℕ → Read
-of_switches v = whether (switches_allowed v) (Is (Switches v) 2) (Refused Forbidden)
+of_switches v = whether (switches_allowed v) (Ok (record_of (Switches v) 2)) (Err Forbidden)
 
 abbrev pub of_keys : Part → ℕ → ℕ → ℕ → ℕ → Read
-of_keys p k0 k1 k2 k3 = whether (fourth_allowed p k3) (Is (Keys k0 k1 k2 k3) 5) (Refused Forbidden)
+of_keys p k0 k1 k2 k3 = whether (fourth_allowed p k3) (Ok (record_of (Keys k0 k1 k2 k3) 5)) (Err Forbidden)
 
 -- 8: a body value that is not allowed.
 abbrev pub of_body : Part → ℕ → List ℕ → Read
 of_body p kind l =
     whether (allowed p kind (get_or l 1 0) (get_or l 4 0))
-    (Is (event_of kind (get_or l 1 0) (get_or l 2 0) (get_or l 3 0) (get_or l 4 0)) (suc (body_of kind)))
-    (Refused Forbidden)
+    (Ok (record_of (event_of kind (get_or l 1 0) (get_or l 2 0) (get_or l 3 0) (get_or l 4 0)) (suc (body_of kind))))
+    (Err Forbidden)
 
 -- Each record is tested by 5, 6, 7, 8, in that order: kind not listed, kind not of this part, body cut short, body
 -- value not allowed.
@@ -86,9 +92,9 @@ abbrev pub of_kind : Part → ℕ → List ℕ → Read
 of_kind p kind l =
     whether (listed kind)
     (whether (belongs p kind)
-    (whether (ltb (body_of kind) (length l)) (of_body p kind l) (Refused CutShort))
-    (Refused Foreign))
-    (Refused Unlisted)
+    (whether (ltb (body_of kind) (length l)) (of_body p kind l) (Err CutShort))
+    (Err Foreign))
+    (Err Unlisted)
 
 abbrev pub front : Part → List ℕ → Read
 front p l = of_kind p (get_or l 0 0) l

@@ -1,21 +1,18 @@
 -- The walk over a recording, record by record, as code goes along it: `rest` is what is left of the walk from a place
 -- on. The argument: a record has at least one byte and no more than there are, so that as many steps as bytes are
 -- enough.
-use Rattle.std.specs.Prelude.{ℕ, zero, suc, ◌+◌, ◌-◌, ◌<◌, ◌≤◌, ◌≡◌, refl, false, List, [], ◌∷◌, length, drop, get_or}
+use Rattle.std.specs.Prelude.{ℕ, zero, suc, ◌+◌, ◌-◌, ◌<◌, ◌≤◌, ◌≡◌, refl, false, List, [], ◌∷◌, length, drop, get_or, Ok, Err}
 use Rattle.std.proofs.Common.{arith, ap, ◌∙◌, subst, ⊎_elim, length-drop, drop-drop}
 use Rattle.terms.specs.declared.Event.{Event}
 use Rattle.terms.specs.declared.Event.TheVariants.{Power, Falls, ByteIn, Rises, Gap, Unfinished, Keys, Switches, ByteOut}
 use Rattle.terms.specs.declared.Place.{Place}
 use Rattle.terms.specs.declared.Part.{Part}
-use Rattle.recording.specs.declared.Read.{Read}
-use Rattle.recording.specs.declared.Read.TheVariants.{Is, Refused}
 use Rattle.recording.specs.declared.Refusal.{Refusal}
 use Rattle.recording.specs.declared.Refusal.TheVariants.{Unlisted, Foreign, CutShort, Forbidden}
-use Rattle.recording.specs.Record.{body_of, allowed, front, place_within}
+use Rattle.recording.specs.Record.{body_of, allowed, front, place_within, Read, record_of}
 use Rattle.recording.specs.Laws.{kind_at}
 use Rattle.recording.specs.Tests.{record_fits, forbids, eight_kinds}
-use Rattle.recording.specs.declared.Ending.TheVariants.{Stops}
-use Rattle.recording.specs.Walk.{Walk, done, stops, next, step, walk, on_gap, behind_gap}
+use Rattle.recording.specs.Walk.{Walk, done, stops, next, step, walk, on_gap, behind_gap, stop_of, Ending}
 
 -- A value that is not allowed stands in the body.
 in_body : (p : Part) (kind b0 b3 : ℕ) → allowed p kind b0 b3 ≡ false → place_within Forbidden kind ≤ body_of kind
@@ -23,7 +20,7 @@ in_body p kind b0 b3 f =
     ⊎_elim (λ six. rw six (omega arith)) (⊎_elim (λ eight. rw eight (omega arith)) (λ seven. rw seven.0 (omega arith))) (eight_kinds p kind b0 b3 f)
 
 -- What a refusal points at is within the bytes.
-refusal_fits : (p : Part) (l : List ℕ) (r : Refusal) → 0 < length l → front p l ≡ Refused r → place_within r (get_or l 0 0) < length l
+refusal_fits : (p : Part) (l : List ℕ) (r : Refusal) → 0 < length l → front p l ≡ Err r → place_within r (get_or l 0 0) < length l
 refusal_fits p l Unlisted some q = some
 refusal_fits p l Foreign some q = some
 refusal_fits p l CutShort some q = some
@@ -46,11 +43,11 @@ enough (suc n) (suc m) p at (b ∷ l) h g = by (front p (b ∷ l)) refl (λ k x 
     by : (r : Read) → front p (b ∷ l) ≡ r → ((k : ℕ) → length (drop k (b ∷ l)) ≤ n → length (drop k (b ∷ l)) ≤ m → walk n p (at + k) (drop k (b ∷ l)) ≡ walk m p (at + k) (drop k (b ∷ l)))
         → ◌≡◌ {A = Walk} (step at b (λ k. walk n p (at + k) (drop k (b ∷ l))) r)
         (step at b (λ k. walk m p (at + k) (drop k (b ∷ l))) r)
-    by (Is e k) q ih =
-        let f = record_fits p (b ∷ l) e k q in
-        let d = length-drop k (b ∷ l) in
-        ap (next at e) (ih k (omega (arith, d, f)) (omega (arith, d, f)))
-    by (Refused x) q ih = refl
+    by (Ok it) q ih =
+        let f = record_fits p (b ∷ l) it.event it.length q in
+        let d = length-drop it.length (b ∷ l) in
+        ap (next at it.event) (ih it.length (omega (arith, d, f)) (omega (arith, d, f)))
+    by (Err x) q ih = refl
 
 -- What is left of the walk over l from the place i on.
 abbrev pub rest : Part → List ℕ → ℕ → Walk
@@ -75,18 +72,18 @@ module _ (p : Part) (l : List ℕ) (i : ℕ) where
   some : i < length l → 0 < length (drop i l)
   some h = let d = length-drop i l in omega (arith, d)
 
-  pub rest_stops : (r : Refusal) → i < length l → front p (drop i l) ≡ Refused r → rest p l i ≡ stops r (i + place_within r (get_or l i 0))
+  pub rest_stops : (r : Refusal) → i < length l → front p (drop i l) ≡ Err r → rest p l i ≡ stops r (i + place_within r (get_or l i 0))
   rest_stops r h q =
       let o = one (drop i l) (some h) in
       o.2 ∙ ap (by o.0 (drop i l)) q ∙ ap (λ (k : ℕ). stops r (i + place_within r k)) (kind_at l i)
 
-  pub stop_fits : (r : Refusal) → i < length l → front p (drop i l) ≡ Refused r → i + place_within r (get_or l i 0) < length l
+  pub stop_fits : (r : Refusal) → i < length l → front p (drop i l) ≡ Err r → i + place_within r (get_or l i 0) < length l
   stop_fits r h q =
       let f = subst (λ (k : ℕ). place_within r k < length (drop i l)) (kind_at l i) (refusal_fits p (drop i l) r (some h) q) in
       let d = length-drop i l in
       omega (arith, f, d)
 
-  pub rest_next : (e : Event) (m : ℕ) → i < length l → front p (drop i l) ≡ Is e m → rest p l i ≡ next i e (rest p l (i + m))
+  pub rest_next : (e : Event) (m : ℕ) → i < length l → front p (drop i l) ≡ Ok (record_of e m) → rest p l i ≡ next i e (rest p l (i + m))
   rest_next e m h q =
       let o = one (drop i l) (some h) in
       o.2 ∙ ap (by o.0 (drop i l)) q ∙ ap (next i e) (again o.0 o.1)
@@ -99,8 +96,8 @@ module _ (p : Part) (l : List ℕ) (i : ℕ) where
           ∙ ap (λ (x : List ℕ). walk (length x) p (i + m) x) (drop-drop m i l)
 
 -- An ending at a place is one at what the place holds.
-pub stops_there : (r : Refusal) (at : Place) (i : ℕ) → at.0 ≡ i → Stops r at ≡ Stops r (record { 0 = i })
-stops_there r at i e = λ j. Stops r (record { 0 = e j })
+pub stops_there : (r : Refusal) (at : Place) (i : ℕ) → at.0 ≡ i → ◌≡◌ {A = Ending} (Err (stop_of r at)) (Err (stop_of r (record { 0 = i })))
+stops_there r at i e = λ j. Err (stop_of r (record { 0 = e j }))
 
 -- The place behind the last gap is within the bytes.
 pub gap_within : (n : ℕ) (p : Part) (from at : ℕ) (l : List ℕ) → from ≤ at → behind_gap from (walk n p at l) ≤ at + length l
@@ -121,9 +118,9 @@ gap_within (suc n) p from at (b ∷ l) h = go (front p (b ∷ l)) refl (λ m f g
 
     go : (r : Read) → front p (b ∷ l) ≡ r → ((m f : ℕ) → f ≤ at + m → behind_gap f (walk n p (at + m) (drop m (b ∷ l))) ≤ at + m + length (drop m (b ∷ l)))
         → behind_gap from (step at b (λ m. walk n p (at + m) (drop m (b ∷ l))) r) ≤ at + length (b ∷ l)
-    go (Is e m) q ih =
-        let f = record_fits p (b ∷ l) e m q in
-        let d = length-drop m (b ∷ l) in
-        let i = ih m (on_gap e (at + 1) from) (onward e m f.0) in
+    go (Ok it) q ih =
+        let f = record_fits p (b ∷ l) it.event it.length q in
+        let d = length-drop it.length (b ∷ l) in
+        let i = ih it.length (on_gap it.event (at + 1) from) (onward it.event it.length f.0) in
         omega (arith, f, d, i)
-    go (Refused x) q ih = omega arith
+    go (Err x) q ih = omega arith

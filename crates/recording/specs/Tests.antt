@@ -1,15 +1,13 @@
 -- What the reading of a record says of the bytes: which test they fail, and that they pass those before it. The argument: the
 -- tests come in their order, and each way through them ends in one reading.
-use Rattle.std.specs.Prelude.{ℕ, ◌<◌, ◌≤◌, ◌≡◌, refl, Bool, true, false, List, ◌⊎◌, length, get_or, eqb, ltb}
+use Rattle.std.specs.Prelude.{ℕ, ◌<◌, ◌≤◌, ◌≡◌, refl, Bool, true, false, List, ◌⊎◌, length, get_or, eqb, ltb, Ok, Err}
 use Rattle.std.proofs.Common.{arith, subst, true≢false, inl, inr, eqb-true, ltb-true, ltb-false}
 use Rattle.rules.specs.Choice.{whether, whether_all}
 use Rattle.terms.specs.declared.Event.{Event}
 use Rattle.terms.specs.declared.Part.{Part}
 use Rattle.terms.specs.declared.Part.TheVariants.{Pt6302, Pt6312, Pt6315}
-use Rattle.recording.specs.declared.Read.{Read}
-use Rattle.recording.specs.declared.Read.TheVariants.{Is, Refused}
 use Rattle.recording.specs.declared.Refusal.TheVariants.{Unlisted, Foreign, CutShort, Forbidden}
-use Rattle.recording.specs.Record.{listed, belongs, body_of, bits_allowed, switches_allowed, fourth_allowed, allowed, front}
+use Rattle.recording.specs.Record.{listed, belongs, body_of, bits_allowed, switches_allowed, fourth_allowed, allowed, front, Read, record_of}
 
 -- 7: the kind is of the part, and at least one byte of the body is missing.
 pub record Starts (p : Part) (l : List ℕ) : Type 0 where
@@ -25,11 +23,11 @@ pub record Forbids (p : Part) (l : List ℕ) : Type 0 where
   pub not_allowed : allowed p (get_or l 0 0) (get_or l 1 0) (get_or l 4 0) ≡ false
 
 Because : Part → List ℕ → Read → Type 0
-Because p l (Is e m) = (1 ≤ m) × (m ≤ length l)
-Because p l (Refused Unlisted) = Unit
-Because p l (Refused Foreign) = Unit
-Because p l (Refused CutShort) = Starts p l
-Because p l (Refused Forbidden) = Forbids p l
+Because p l (Ok it) = (1 ≤ it.length) × (it.length ≤ length l)
+Because p l (Err Unlisted) = Unit
+Because p l (Err Foreign) = Unit
+Because p l (Err CutShort) = Starts p l
+Because p l (Err Forbidden) = Forbids p l
 
 because : (p : Part) (l : List ℕ) → Because p l (front p l)
 unfolding Because
@@ -46,15 +44,15 @@ because p l =
     (λ _. tt)
 
 -- A record has a first byte, and ends within the bytes.
-pub record_fits : (p : Part) (l : List ℕ) (e : Event) (m : ℕ) → front p l ≡ Is e m → (1 ≤ m) × (m ≤ length l)
+pub record_fits : (p : Part) (l : List ℕ) (e : Event) (m : ℕ) → front p l ≡ Ok (record_of e m) → (1 ≤ m) × (m ≤ length l)
 unfolding Because
 record_fits p l e m q = subst (Because p l) q (because p l)
 
-pub starts : (p : Part) (l : List ℕ) → front p l ≡ Refused CutShort → Starts p l
+pub starts : (p : Part) (l : List ℕ) → front p l ≡ Err CutShort → Starts p l
 unfolding Because
 starts p l q = subst (Because p l) q (because p l)
 
-pub forbids : (p : Part) (l : List ℕ) → front p l ≡ Refused Forbidden → Forbids p l
+pub forbids : (p : Part) (l : List ℕ) → front p l ≡ Err Forbidden → Forbids p l
 unfolding Because
 forbids p l q = subst (Because p l) q (because p l)
 

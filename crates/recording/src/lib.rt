@@ -8,17 +8,15 @@ pub use bodies::{bits_allowed, body_of, fourth_allowed, switches_allowed};
 pub use kinds::{has_keys, has_switches};
 use terms::{Event, Place};
 
-// How a walk ends.
-#[derive(Clone, Copy)]
-pub enum Ending {
-    // Behind the last record.
-    Done,
-    // At a record that is none, with the place that its refusal points at.
-    Stops(Refusal, Place),
+// A record that was read: its event, and how many bytes it has.
+#[derive(Clone, Copy, Debug, PartialEq, Eq)]
+pub struct Record {
+    pub event: Event,
+    pub length: usize,
 }
 
 // Why there is no record: numbers 5, 6, 7 and 8.
-#[derive(Clone, Copy)]
+#[derive(Clone, Copy, Debug, PartialEq, Eq)]
 pub enum Refusal {
     // The kind is not listed.
     Unlisted,
@@ -30,10 +28,9 @@ pub enum Refusal {
     Forbidden,
 }
 
-// What a record is read as.
-#[derive(Clone, Copy)]
-pub enum Read {
-    // An event, and the length of its record.
-    Is(Event, usize),
-    Refused(Refusal),
+// Where a walk stops before the end: at a record that is none, with the place that its refusal points at.
+#[derive(Clone, Copy, Debug, PartialEq, Eq)]
+pub struct Stop {
+    pub refusal: Refusal,
+    pub at: Place,
 }

@@ -1,20 +1,19 @@
 // The line of a refusal, which every program prints alike.
 #![tactic(auto)]
 
-ghost use Rattle.writing.specs.Writes.{Writes};
+ghost use Rattle.writing.specs.Wrote.{Wrote};
 ghost use Rattle.refusals.specs.Refusal.{refused_at};
 
 use terms::Place;
 use text::decimal;
-use writing::{put, words};
+use writing::Writer;
 
-// Writes it to the front of `out`, as far as there is room, and gives the place behind it.
-pub fn refused(out: &mut [u8], number: u8, place: Place) -> usize
-    ensures { Writes out.old 0 (refused_at number place.0) result out.new }
+pub fn refused(w: &mut Writer, number: u8, place: Place)
+    ensures { Wrote w.old (refused_at number place.0) w.new }
 {
-    let begun = words(out, 0, b"refused ");
-    let numbered = decimal(out, begun, number as usize);
-    let next = words(out, numbered, b" at ");
-    let told = decimal(out, next, place.0);
-    put(out, told, b'\n')
+    w.words(b"refused ");
+    decimal(w, number as usize);
+    w.words(b" at ");
+    decimal(w, place.0);
+    w.put(b'\n');
 }

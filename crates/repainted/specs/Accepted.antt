@@ -1,15 +1,13 @@
 -- What is recorded is read back. The argument: the record at the front of a recording is its first event, whole and
 -- allowed; what stands behind it is the recording of the other events. A painting is made of falls, bytes and rises,
 -- which every part has and whose bodies are free, so it is always accepted.
-use Rattle.std.specs.Prelude.{ℕ, zero, suc, ◌+◌, ◌≤◌, ◌≡◌, refl, List, [], ◌∷◌, ◌++◌, map, length, drop, take}
+use Rattle.std.specs.Prelude.{ℕ, zero, suc, ◌+◌, ◌≤◌, ◌≡◌, refl, List, [], ◌∷◌, ◌++◌, map, length, drop, take, Ok}
 use Rattle.std.proofs.Common.{arith, ap, length-append, drop_at}
 use Rattle.terms.specs.declared.Event.{Event}
 use Rattle.terms.specs.declared.Event.TheVariants.{ByteIn, Rises}
 use Rattle.terms.specs.declared.Part.{Part}
 use Rattle.terms.specs.Event.{recorded, recording, strobe}
-use Rattle.recording.specs.declared.Read.TheVariants.{Is}
-use Rattle.recording.specs.declared.Ending.TheVariants.{Done}
-use Rattle.recording.specs.Record.{front}
+use Rattle.recording.specs.Record.{front, record_of}
 use Rattle.recording.specs.Walk.{Walk, next, step, walk, walked, events, end_of}
 use Rattle.recording.specs.Tests.{record_fits}
 use Rattle.recording.specs.Append.{front_append}
@@ -23,15 +21,15 @@ use Rattle.painting.specs.Character as Character
 
 -- A recording can carry the event: its record is read as the event again.
 abbrev pub Recordable : Part → Event → Type 0
-Recordable p e = front p (recorded e) ≡ Is e (length (recorded e))
+Recordable p e = front p (recorded e) ≡ Ok (record_of e (length (recorded e)))
 
 -- The record at the front is the first event, whatever stands behind it.
-front_recorded : (p : Part) (e : Event) (l : List ℕ) → Recordable p e → front p (recorded e ++ l) ≡ Is e (length (recorded e))
+front_recorded : (p : Part) (e : Event) (l : List ℕ) → Recordable p e → front p (recorded e ++ l) ≡ Ok (record_of e (length (recorded e)))
 front_recorded p e l h =
-    front_append p (recorded e) l (Is e (length (recorded e))) tt (record_fits p (recorded e) e (length (recorded e)) h).0 h
+    front_append p (recorded e) l (Ok (record_of e (length (recorded e)))) tt (record_fits p (recorded e) e (length (recorded e)) h).0 h
 
 -- A walk goes by the record at the front, with a step left for it.
-walk_next : (n : ℕ) (p : Part) (at : ℕ) (l : List ℕ) (e : Event) (m : ℕ) → length l ≤ n → front p l ≡ Is e m
+walk_next : (n : ℕ) (p : Part) (at : ℕ) (l : List ℕ) (e : Event) (m : ℕ) → length l ≤ n → front p l ≡ Ok (record_of e m)
     → (k : ℕ) × (n ≡ suc k) × (walk n p at l ≡ next at e (walk k p (at + m) (drop m l)))
 walk_next zero p at l e m h q = absurd (omega (arith, record_fits p l e m q))
 walk_next (suc n) p at [] e m h q = absurd (omega (arith, record_fits p [] e m q))
@@ -39,7 +37,7 @@ walk_next (suc n) p at (b ∷ l) e m h q = (n, refl, ap (step at b (λ k. walk n
 
 -- The walk over a recording of es reads each of them, and is done.
 abbrev Reads : List Event → Walk → Type 0
-Reads es w = (end_of w ≡ Done) × (events w ≡ es)
+Reads es w = (end_of w ≡ Ok tt) × (events w ≡ es)
 
 reads : (es : List Event) (n : ℕ) (p : Part) (at : ℕ) → Each (Recordable p) es → length (recording es) ≤ n → Reads es (walk n p at (recording es))
 reads [] zero p at h l = (refl, refl)
@@ -53,7 +51,7 @@ reads (e ∷ es) n p at h l =
 
 -- A recording of es is accepted by the part p, and these are its events.
 abbrev pub Accepted : Part → List Event → Type 0
-Accepted p es = (end_of (walked p (recording es)) ≡ Done) × (events (walked p (recording es)) ≡ es)
+Accepted p es = (end_of (walked p (recording es)) ≡ Ok tt) × (events (walked p (recording es)) ≡ es)
 
 pub accepted : (p : Part) (es : List Event) → Each (Recordable p) es → Accepted p es
 accepted p es h = reads es (length (recording es)) p 0 h (omega arith)

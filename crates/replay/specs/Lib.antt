@@ -1,5 +1,5 @@
 pub mod Replay
-pub mod Way
+pub mod Passing
 pub mod Walked
 pub mod FromNothing
 pub mod Unique

@@ -1,16 +1,13 @@
 -- The whole answer of a replay: number, place and knowledge, on good and on refused calls.
-use Rattle.std.specs.Prelude.{ℕ, ◌+◌, ◌≡◌, List, length, drop}
+use Rattle.std.specs.Prelude.{ℕ, ◌+◌, ◌≡◌, List, length, drop, Ok, Err}
 use Rattle.std.proofs.Common.{subst}
 use Rattle.knowing.specs.Standing.{Sound}
 use Rattle.terms.specs.declared.Event.{Event}
-use Rattle.terms.specs.declared.Place.{Place}
+use Rattle.terms.specs.declared.NoPart.{NoPart}
 use Rattle.terms.specs.declared.Part.{Part}
-use Rattle.terms.specs.declared.PartRead.{PartRead}
-use Rattle.terms.specs.declared.PartRead.TheVariants.{Is, Refused}
+use Rattle.terms.specs.Part.{PartRead}
 use Rattle.recording.specs.Record as Record
-use Rattle.recording.specs.Walk.{walked, events, end_of}
-use Rattle.recording.specs.declared.Ending.{Ending}
-use Rattle.recording.specs.declared.Ending.TheVariants.{Done, Stops}
+use Rattle.recording.specs.Walk.{walked, events, end_of, Ending}
 use Rattle.walks.specs.Turn.{InTurn}
 use Rattle.parts.specs.Facts.{same?, range, move}
 use Rattle.panel.specs.declared.Panel.{Panel}
@@ -35,8 +32,8 @@ pub record PartDone (p : Part) (es : List Event) (k : Panel) (l : List ℕ) (r :
 -- By how the records end: P where they are done, else 5, 6, 7 or 8 at the place that the refusal points at
 -- (`recording/Walk.walk`, by `recording/Record.place_within`), counted from the front of the whole recording.
 abbrev pub ByEnding : Ending → ℕ → Panel → Replayed → Type 0 → Type 0
-ByEnding Done start k r P = P
-ByEnding (Stops x at) start k r P = RefusedBy (Record.number x) (start + at.0) k r
+ByEnding (Ok u) start k r P = P
+ByEnding (Err s) start k r P = RefusedBy (Record.number s.refusal) (start + s.at.0) k r
 
 -- The records from the start place on.
 abbrev pub ReplaysFrom : Part → Panel → List ℕ → ℕ → Replayed → Type 0
@@ -51,11 +48,11 @@ ReplaysPart p k l start r =
 
 -- Test 1 comes first.
 abbrev pub Replays : PartRead → Panel → List ℕ → ℕ → Replayed → Type 0
-Replays (Is p) k l start r = ReplaysPart p k l start r
-Replays (Refused at) k l start r = RefusedBy 1 0 k r
+Replays (Ok p) k l start r = ReplaysPart p k l start r
+Replays (Err e) k l start r = RefusedBy 1 0 k r
 
-pub replays_refused : (q : PartRead) (at : Place) (k : Panel) (l : List ℕ) (start : ℕ) (r : Replayed) → Refused at ≡ q → RefusedBy 1 0 k r → Replays q k l start r
-replays_refused q at k l start r p h = subst (λ (x : PartRead). Replays x k l start r) p h
+pub replays_refused : (q : PartRead) (e : NoPart) (k : Panel) (l : List ℕ) (start : ℕ) (r : Replayed) → Err e ≡ q → RefusedBy 1 0 k r → Replays q k l start r
+replays_refused q e k l start r p h = subst (λ (x : PartRead). Replays x k l start r) p h
 
 -- By how the records end, as code finds it.
 pub ends_by : (a b : Ending) (start : ℕ) (k : Panel) (r : Replayed) (P : Type 0) → a ≡ b → ByEnding a start k r P → ByEnding b start k r P

@@ -1,15 +1,12 @@
 -- Two answers of a replay that meet its promise are equal. The argument: both are refused alike or both are done, the number and place fix the answer,
 -- and what is known of every fact fixes the knowledge.
-use Rattle.std.specs.Prelude.{ℕ, ◌+◌, ◌≡◌, List, drop}
+use Rattle.std.specs.Prelude.{ℕ, ◌+◌, ◌≡◌, List, drop, Ok, Err}
 use Rattle.std.proofs.Common.{sym, ◌∙◌}
 use Rattle.terms.specs.declared.Part.{Part}
-use Rattle.terms.specs.declared.PartRead.{PartRead}
-use Rattle.terms.specs.declared.PartRead.TheVariants.{Is, Refused}
+use Rattle.terms.specs.Part.{PartRead}
 use Rattle.terms.specs.declared.Event.{Event}
-use Rattle.recording.specs.declared.Ending.{Ending}
-use Rattle.recording.specs.declared.Ending.TheVariants as Ended
 use Rattle.recording.specs.Record as Record
-use Rattle.recording.specs.Walk.{walked, events, end_of}
+use Rattle.recording.specs.Walk.{walked, events, end_of, Ending}
 use Rattle.panel.specs.declared.Panel.{Panel}
 use Rattle.panel.specs.Unique.{Shaped, same_panel}
 use Rattle.replay.specs.declared.replays.Replayed.{Replayed}
@@ -23,14 +20,14 @@ module _ (k : Panel) (l : List ℕ) (r q : Replayed) where
   module _ {X : Type 0} (refused : (n at : ℕ) → RefusedBy n at k r → RefusedBy n at k q → X)
       (done : (p : Part) (es : List Event) → PartDone p es k l r → PartDone p es k l q → X) where
     ended : (e : Ending) (start : ℕ) (p : Part) (es : List Event) → ByEnding e start k r (PartDone p es k l r) → ByEnding e start k q (PartDone p es k l q) → X
-    ended Ended.Done start p es h g = done p es h g
-    ended (Ended.Stops x at) start p es h g = refused (Record.number x) (start + at.0) h g
+    ended (Ok u) start p es h g = done p es h g
+    ended (Err s) start p es h g = refused (Record.number s.refusal) (start + s.at.0) h g
 
     same_way : (part : PartRead) (start : ℕ) → Replays part k l start r → Replays part k l start q → X
-    same_way (Is p) start h g =
+    same_way (Ok p) start h g =
         tested_both (λ n. RefusedBy n 0 k r) (λ n. RefusedBy n 0 k q) (λ n. refused n 0)
         (ended (end_of (walked p (drop start l))) start p (events (walked p (drop start l)))) h g
-    same_way (Refused at) start h g = refused 1 0 h g
+    same_way (Err e) start h g = refused 1 0 h g
 
   -- The number and the place go by the part, the knowledge and the recording alone.
   one_number : (part : PartRead) (start : ℕ) → Replays part k l start r → Replays part k l start q

@@ -3,8 +3,8 @@
 
 mod nothing;
 mod replays;
-mod ways;
+mod tests;
 
-pub use answers::Answer;
+pub use answers::{Answer, Refused};
 pub use nothing::from_nothing;
 pub use replays::{Replayed, replay};

@@ -2,13 +2,13 @@
 ghost use Rattle.terms.specs.Part.{part_of};
 ghost use Rattle.replay.specs.Replay.{Replays};
 
-use crate::ways::{Way, way_of};
+use crate::tests::passing;
 use answers::{Answer, ended};
 use character_walks::character_walk;
 use panel::Panel;
-use recording::Ending;
+use parts::Kind;
 use segment_walks::segment_walk;
-use terms::{Part, Place};
+use terms::Place;
 
 // The answer, and the knowledge: after the recording where it is done, else as it was handed in.
 #[derive(Clone, Copy)]
@@ -23,31 +23,34 @@ pub fn replay(part: u8, panel: Panel, recording: &[u8], start: Place) -> Replaye
     ensures { Replays (part_of part) panel recording.now start.0 result }
 {
     let mut known = panel;
-    let way = way_of(part, known.segment, known.character, recording.len(), start);
-    let from = start.0;
-    let answer = match way {
-        Way::Refused(answer) => answer,
-        Way::Characters => {
-            let walked = character_walk(Part::Pt6302, known.character, &recording[from..]);
-            let ending = walked.ending;
-            if let Ending::Done = ending {
-                let k = walked.k;
-                known.character = k;
-            }
-            ended(ending, from, recording.len())
+    let part = match passing(part, &known, recording.len(), start) {
+        Ok(part) => part,
+        Err(refused) => {
+            return Replayed {
+                answer: Err(refused),
+                panel: known,
+            };
         }
-        Way::Segments(is, family) => {
-            let walked = segment_walk(is, family, known.segment, &recording[from..]);
-            let ending = walked.ending;
-            if let Ending::Done = ending {
-                let k = walked.k;
-                known.segment = k;
+    };
+    let bytes = &recording[start.0..];
+    let ending = match Kind::from(part) {
+        Kind::Character => {
+            let walked = character_walk(part, known.character, bytes);
+            if let Ok(()) = walked.ending {
+                known.character = walked.k;
             }
-            ended(ending, from, recording.len())
+            walked.ending
+        }
+        Kind::Segment(family) => {
+            let walked = segment_walk(part, family, known.segment, bytes);
+            if let Ok(()) = walked.ending {
+                known.segment = walked.k;
+            }
+            walked.ending
         }
     };
     Replayed {
-        answer,
+        answer: ended(ending, start.0, recording.len()),
         panel: known,
     }
 }

@@ -1,55 +1,55 @@
 -- Two reports that meet the promise are equal. The argument: the number, the place and what is said fix the report.
-use Rattle.std.specs.Prelude.{ℕ, ◌<◌, ◌≡◌, refl}
+use Rattle.std.specs.Prelude.{ℕ, ◌<◌, ◌≡◌, refl, Ok, Err}
 use Rattle.std.proofs.Common.{arith, sym, ap, ◌∙◌}
 use Rattle.knowing.specs.Join.{not_known, known_one}
 use Rattle.knowing.specs.Standing as Standing
 use Rattle.terms.specs.declared.Part.TheVariants.{Pt6302, Pt6312, Pt6315}
-use Rattle.terms.specs.declared.PartRead.{PartRead}
-use Rattle.terms.specs.declared.PartRead.TheVariants.{Is as IsPart, Refused}
+use Rattle.terms.specs.Part.{PartRead}
 use Rattle.segment.specs.declared.Family.{Family}
 use Rattle.segment.specs.declared.Family.TheVariants as OfFamily
-use Rattle.sendings.specs.declared.Sending.{Sending}
-use Rattle.sendings.specs.declared.Sending.TheVariants.{Byte, NotDriven, Unknown}
+use Rattle.segment.specs.declared.Sent.{Sent}
+use Rattle.segment.specs.declared.Sent.TheVariants.{Byte, NotDriven}
+use Rattle.fact.specs.declared.Single.{Single}
+use Rattle.fact.specs.declared.Single.TheVariants.{Known, Unknown}
 use Rattle.sendings.specs.Report.{sending}
 use Rattle.panel.specs.declared.Panel.{Panel}
-use Rattle.reporting.specs.declared.reports.Report.{Report}
-use Rattle.reporting.specs.declared.reports.Report.TheVariants as R
+use Rattle.reporting.specs.declared.reports.NoReport.TheVariants as R
 use Rattle.rules.specs.Where.{where_both}
 use Rattle.reporting.specs.Report as Told
+use Rattle.reporting.specs.Report.{Report}
 
 -- A byte is below 256. This holds of every report that code hands over.
 abbrev pub Small : Report → Type 0
-Small (R.Is (Byte b)) = b < 256
-Small (R.Is NotDriven) = Unit
-Small (R.Is Unknown) = Unit
-Small (R.NoPart at) = Unit
-Small (R.OutOfRange at) = Unit
+Small (Ok (Known (Byte b))) = b < 256
+Small (Ok (Known NotDriven)) = Unit
+Small (Ok Unknown) = Unit
+Small (Err why) = Unit
 
-pub same_sending : (a b : Sending) → Small (R.Is a) → Small (R.Is b) → sending a ≡ sending b → a ≡ b
-same_sending (Byte x) (Byte y) h g e = ap Byte (known_one x y e)
-same_sending (Byte x) NotDriven h g e =
+pub same_sending : (a b : Single Sent) → Small (Ok a) → Small (Ok b) → sending a ≡ sending b → a ≡ b
+same_sending (Known (Byte x)) (Known (Byte y)) h g e = ap (λ (n : ℕ). Known (Byte n)) (known_one x y e)
+same_sending (Known (Byte x)) (Known NotDriven) h g e =
     let z = known_one x 256 e in
     absurd (omega arith)
-same_sending (Byte x) Unknown h g e = absurd (not_known x (sym e))
-same_sending NotDriven (Byte y) h g e =
+same_sending (Known (Byte x)) Unknown h g e = absurd (not_known x (sym e))
+same_sending (Known NotDriven) (Known (Byte y)) h g e =
     let z = known_one 256 y e in
     absurd (omega arith)
-same_sending NotDriven NotDriven h g e = refl
-same_sending NotDriven Unknown h g e = absurd (not_known 256 (sym e))
-same_sending Unknown (Byte y) h g e = absurd (not_known y e)
-same_sending Unknown NotDriven h g e = absurd (not_known 256 e)
+same_sending (Known NotDriven) (Known NotDriven) h g e = refl
+same_sending (Known NotDriven) Unknown h g e = absurd (not_known 256 (sym e))
+same_sending Unknown (Known (Byte y)) h g e = absurd (not_known y e)
+same_sending Unknown (Known NotDriven) h g e = absurd (not_known 256 e)
 same_sending Unknown Unknown h g e = refl
 
 same_report : (a b : Report) → Small a → Small b → Told.number a ≡ Told.number b → Told.place a ≡ Told.place b → Told.says a ≡ Told.says b → a ≡ b
-same_report (R.Is x) (R.Is y) h g n p s = ap R.Is (same_sending x y h g s)
-same_report (R.Is x) (R.NoPart y) h g n p s = absurd (omega arith)
-same_report (R.Is x) (R.OutOfRange y) h g n p s = absurd (omega arith)
-same_report (R.NoPart x) (R.Is y) h g n p s = absurd (omega arith)
-same_report (R.NoPart x) (R.NoPart y) h g n p s = λ i. R.NoPart (record { 0 = p i })
-same_report (R.NoPart x) (R.OutOfRange y) h g n p s = absurd (omega arith)
-same_report (R.OutOfRange x) (R.Is y) h g n p s = absurd (omega arith)
-same_report (R.OutOfRange x) (R.NoPart y) h g n p s = absurd (omega arith)
-same_report (R.OutOfRange x) (R.OutOfRange y) h g n p s = λ i. R.OutOfRange (record { 0 = p i })
+same_report (Ok x) (Ok y) h g n p s = ap Ok (same_sending x y h g s)
+same_report (Ok x) (Err (R.NoPart y)) h g n p s = absurd (omega arith)
+same_report (Ok x) (Err (R.OutOfRange y)) h g n p s = absurd (omega arith)
+same_report (Err (R.NoPart x)) (Ok y) h g n p s = absurd (omega arith)
+same_report (Err (R.NoPart x)) (Err (R.NoPart y)) h g n p s = λ i. Err (R.NoPart (record { 0 = p i }))
+same_report (Err (R.NoPart x)) (Err (R.OutOfRange y)) h g n p s = absurd (omega arith)
+same_report (Err (R.OutOfRange x)) (Ok y) h g n p s = absurd (omega arith)
+same_report (Err (R.OutOfRange x)) (Err (R.NoPart y)) h g n p s = absurd (omega arith)
+same_report (Err (R.OutOfRange x)) (Err (R.OutOfRange y)) h g n p s = λ i. Err (R.OutOfRange (record { 0 = p i }))
 
 module _ (k : Panel) (r q : Report) (sr : Small r) (sq : Small q) where
   same_told : (n : ℕ) (s : Standing.Standing) → Told.Answers n s r → Told.Answers n s q → r ≡ q
@@ -60,7 +60,7 @@ module _ (k : Panel) (r q : Report) (sr : Small r) (sq : Small q) where
 
   -- Two reports are one.
   pub one_report : (p : PartRead) → Told.Tells p k r → Told.Tells p k q → r ≡ q
-  one_report (IsPart Pt6302) h g = same_told 1 _ h g
-  one_report (IsPart Pt6312) h g = by_family OfFamily.Pt6312 h g
-  one_report (IsPart Pt6315) h g = by_family OfFamily.Pt6315 h g
-  one_report (Refused at) h g = same_told 1 _ h g
+  one_report (Ok Pt6302) h g = same_told 1 _ h g
+  one_report (Ok Pt6312) h g = by_family OfFamily.Pt6312 h g
+  one_report (Ok Pt6315) h g = by_family OfFamily.Pt6315 h g
+  one_report (Err e) h g = same_told 1 _ h g

@@ -3,4 +3,4 @@
 
 mod reports;
 
-pub use reports::{Report, next_sent};
+pub use reports::{NoReport, Report, next_sent};

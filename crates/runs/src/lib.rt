@@ -3,6 +3,6 @@
 
 mod around;
 mod looking;
+mod ring;
 
-pub use around::write_runs;
-pub use looking::look_over;
+pub use ring::Ring;

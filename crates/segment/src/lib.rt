@@ -3,12 +3,18 @@
 #![tactic(auto)]
 
 mod command;
+mod numbers;
 mod stepped;
+mod value;
 
 ghost use Rattle.std.specs.Prelude.{◌≡◌};
 ghost use Rattle.segment.specs.Family.{sizes};
 
 pub use command::Command;
+pub use numbers::{
+    FIRST, FIXED, IDLE, IGNORING, INCREMENT, OFF, ON, OPEN, READ_KEYS, READ_SWITCHES,
+    WRITE_DISPLAY, WRITE_LED,
+};
 pub use stepped::behind;
 use terms::Address;
 
@@ -64,8 +70,8 @@ impl Family {
     }
 }
 
-// Where the next data byte goes.
-#[derive(Clone, Copy)]
+// Where the next data byte goes. It is no `Option`: an invalid address is one that the chip has, and no lack of one.
+#[derive(Clone, Copy, Debug, PartialEq, Eq)]
 pub enum Pointer {
     At(Address),
     Invalid,
@@ -144,8 +150,8 @@ pub struct Moved {
     pub any: Anything,
 }
 
-// What the chip sends next, if it drives the line.
-#[derive(Clone, Copy)]
+// What the chip sends next, if it drives the line. It is no `Option`: that the line is not driven is seen as a byte is, and can be known or unknown as one.
+#[derive(Clone, Copy, Debug, PartialEq, Eq)]
 pub enum Sent {
     Byte(u8),
     NotDriven,

@@ -1,5 +1,5 @@
 -- What each arm of the walk owes: that what is left behind its records makes of the knowledge behind them what was left before makes of the knowledge before.
-use Rattle.std.specs.Prelude.{ℕ, suc, ◌+◌, ◌*◌, ◌<◌, ◌≤◌, ◌≡◌, refl, Bool, true, false, List, ltb, length, get_or, drop}
+use Rattle.std.specs.Prelude.{ℕ, suc, ◌+◌, ◌*◌, ◌<◌, ◌≤◌, ◌≡◌, refl, Bool, true, false, List, ltb, length, get_or, drop, Ok}
 use Rattle.std.proofs.Common.{arith, sym, ap, ◌∙◌, subst}
 use Rattle.std.proofs.Math.Path.{subst⁻¹}
 use Rattle.rules.specs.Choice.{whether}
@@ -10,10 +10,9 @@ use Rattle.knowing.specs.Standing.{Standing, known, unknown}
 use Rattle.knowing.specs.Know.{know}
 use Rattle.fact.specs.View.{stands}
 use Rattle.lamps.specs.Lamp.{wide8, wide4}
-use Rattle.recording.specs.Record.{front}
+use Rattle.recording.specs.Record.{front, record_of}
 use Rattle.recording.specs.Steps.{rest}
 use Rattle.recording.specs.Walk.{walked}
-use Rattle.recording.specs.declared.Read.TheVariants.{Is}
 use Rattle.one_record.specs.Glance.{InByte}
 use Rattle.lamps.specs.View.{shown}
 use Rattle.changes.specs.Change.{among, Changes, Met, met_run, shared_by}
@@ -52,8 +51,8 @@ module _ (p : Family) (b : ℕ) (begun r : Control) (is says : Command) (e : is 
   tests_by h = as_steps (sizes p) (ap commanded (sym e ∙ f)) (forgotten_steps (sizes p) refl h)
 
 -- A byte in, as a record of the part.
-pub byte_is : (part : Part) (l : List ℕ) (i b : ℕ) → InByte l i b → front part (drop i l) ≡ Is (ByteIn b) 2
-byte_is part l i b h = byte_there part l i h.kind h.there ∙ ap (λ (v : ℕ). Is (ByteIn v) 2) (sym h.byte)
+pub byte_is : (part : Part) (l : List ℕ) (i b : ℕ) → InByte l i b → front part (drop i l) ≡ Ok (record_of (ByteIn b) 2)
+byte_is part l i b h = byte_there part l i h.kind h.there ∙ ap (λ (v : ℕ). Ok (record_of (ByteIn v) 2)) (sym h.byte)
 
 module _ (part : Part) (p : Family) (l : List ℕ) (first : Knowledge) where
   -- The walk stands at place i, with the knowledge k, and the cells are as many as they were.
@@ -62,7 +61,7 @@ module _ (part : Part) (p : Family) (l : List ℕ) (first : Knowledge) where
     pub kept : Kept same? (range (sizes p)) (move (sizes p)) (walked part l) (kview first) (rest part l i) (kview (record { cells = cells; control = c }))
 
   -- One record.
-  pub takes : (i n : ℕ) (e : Event) (old new : List ℕ) (c r : Control) → i < length l → front part (drop i l) ≡ Is e n → length new ≡ 36
+  pub takes : (i n : ℕ) (e : Event) (old new : List ℕ) (c r : Control) → i < length l → front part (drop i l) ≡ Ok (record_of e n) → length new ≡ 36
       → Knows (sizes p) (move (sizes p) e) (record { cells = old; control = c }) (record { cells = new; control = r }) → Here i old c → Here (i + n) new r
   takes i n e old new c r inside is size met h = record {
     size = size;

@@ -3,11 +3,11 @@
 
 mod still;
 
-ghost use Rattle.std.specs.Prelude.{◌≡◌, ◌≤◌, length};
+ghost use Rattle.std.specs.Prelude.{◌≤◌, length};
 ghost use Rattle.segment_everyday.specs.Arms.{GoesOn};
 
 use crate::still::still;
-use byte_runs::{passed, shared};
+use byte_runs::ByteRun;
 use changes::{forget, meet_one};
 use lamp_tests::none_known;
 use lamps::{EIGHT, FOUR, code_of, cut};
@@ -33,17 +33,18 @@ pub struct Went {
 // since the compiler then changes it where it stands, too.
 pub fn everyday_walk(
     family: Family,
-    cells: &mut [u16],
+    cells: &mut [u16; 36],
     was: Control,
     bytes: &[u8],
     from: Place,
 ) -> Went
-    requires { (length cells.old ≡ 36) × (from.0 ≤ length bytes.now) }
+    requires { from.0 ≤ length bytes.now }
     ensures { GoesOn family bytes.now from.0 cells.old was result.at.0 cells.new result.control }
 {
     let sizes = family.sizes();
     let mut control = was;
     let mut i = from.0;
+    // Each turn goes on by the length of a record or of a run, which no range and no iterator gives.
     while i < bytes.len() {
         let at = Place(i);
         let record = everyday_at(bytes, at);
@@ -79,31 +80,32 @@ pub fn everyday_walk(
                 i += 1;
             }
             Everyday::ByteIn(byte) => {
+                let run = ByteRun { bytes, at };
                 let to = goes_to(family, control);
                 match to {
                     Target::Cell(cell) => {
-                        let count = put_run(cells, EIGHT, cell, sizes.cells, bytes, at);
+                        let count = put_run(cells, EIGHT, cell, sizes.cells, run);
                         control = counted_on(family, control, cell, count);
                         i += 2 * count;
                     }
                     Target::Anywhere => {
                         if none_known(cells) {
-                            i += 2 * passed(bytes, at);
+                            i += 2 * run.passed();
                         } else {
-                            let common = shared(EIGHT, bytes, at);
+                            let common = run.shared(EIGHT);
                             meets(family, cells, common.code);
                             i += 2 * common.count;
                         }
                     }
                     Target::Perhaps => {
-                        let common = shared(EIGHT, bytes, at);
+                        let common = run.shared(EIGHT);
                         control = perhaps_lit(control, cut(FOUR, common.code));
                         if !none_known(cells) {
                             meets(family, cells, common.code);
                         }
                         i += 2 * common.count;
                     }
-                    Target::Nowhere => i += 2 * passed(bytes, at),
+                    Target::Nowhere => i += 2 * run.passed(),
                     Target::Led => {
                         control = lit(control, byte);
                         i += 2;
@@ -120,9 +122,9 @@ pub fn everyday_walk(
                     }
                     Target::Elsewhere => {
                         if nothing_left(control) && none_known(cells) {
-                            i += 2 * passed(bytes, at);
+                            i += 2 * run.passed();
                         } else {
-                            let count = still(family, control, cells, bytes, at);
+                            let count = still(family, control, cells, run);
                             if 0 < count {
                                 i += 2 * count;
                             } else {

@@ -25,7 +25,7 @@ fn mode_of(family: Family, byte: u8) -> u8
 {
     match family {
         Family::Pt6312 => byte % 8,
-        Family::Pt6315 => if byte % 16 < 8 { byte % 16 } else { 8 },
+        Family::Pt6315 => (byte % 16).min(8),
     }
 }
 

@@ -19,12 +19,7 @@ fn fits(family: Family, picture: SegmentPicture) -> bool
     ensures { result ≡ segment_fits (sizes family) picture }
 {
     let sizes = family.sizes();
-    if picture.mode <= sizes.top {
-        if picture.dimming < 8 {
-            return picture.led < 16;
-        }
-    }
-    false
+    picture.mode <= sizes.top && picture.dimming < 8 && picture.led < 16
 }
 
 fn size_of(family: Family) -> usize

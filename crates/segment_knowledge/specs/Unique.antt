@@ -1,14 +1,15 @@
 -- Two knowledges that say the same are equal. The argument: there is one code for each standing, and each field is that of a fact.
-use Rattle.std.specs.Prelude.{suc, ◌≡◌, refl, length}
-use Rattle.std.proofs.Common.{arith, sym}
-use Rattle.knowing.specs.Join.{not_known, known_one}
-use Rattle.fact.specs.View.{same_single}
+use Rattle.std.specs.Prelude.{◌≡◌, refl, length}
+use Rattle.std.proofs.Common.{arith}
+use Rattle.fact.specs.declared.Single.{Single}
+use Rattle.fact.specs.View.{same_fact, same_single}
 use Rattle.key_codes.specs.Codes.{same_row}
 use Rattle.lamps.specs.Lamp.{one_code}
 use Rattle.lamps.specs.Row.{one_row}
 use Rattle.segment.specs.Fact.{Fact, cell, address, data_mode, stepping, mode, dimming, display, led, key, switches, read_count, position}
-use Rattle.segment_knowledge.specs.declared.Pointing.{Pointing}
-use Rattle.segment_knowledge.specs.declared.Pointing.TheVariants.{At, Invalid, Unknown}
+use Rattle.segment.specs.declared.Pointer.{Pointer}
+use Rattle.segment.specs.declared.Pointer.TheVariants.{At, Invalid}
+use Rattle.segment.specs.Value.{pointer}
 use Rattle.segment_knowledge.specs.declared.Knowledge.{Knowledge}
 use Rattle.segment_knowledge.specs.View.{points, kview}
 
@@ -17,25 +18,16 @@ pub record Shaped (k : Knowledge) : Type 0 where
   pub cells : length k.cells ≡ 36
   pub keys : length k.control.keys ≡ 4
 
-same_pointing : (a b : Pointing) → points a ≡ points b → a ≡ b
-same_pointing (At x) (At y) e =
-    let z : x.0 ≡ y.0 = less (known_one (suc x.0) (suc y.0) e) in
+same_pointer : (a b : Pointer) → pointer a ≡ pointer b → a ≡ b
+same_pointer (At x) (At y) e =
+    let z : x.0 ≡ y.0 = omega arith in
     λ i. At (record { 0 = z i })
-  where
-    less : suc x.0 ≡ suc y.0 → x.0 ≡ y.0
-    less h = omega arith
-same_pointing (At x) Invalid e =
-    let z = known_one (suc x.0) 0 e in
-    absurd (omega arith)
-same_pointing (At x) Unknown e = absurd (not_known (suc x.0) (sym e))
-same_pointing Invalid (At y) e =
-    let z = known_one 0 (suc y.0) e in
-    absurd (omega arith)
-same_pointing Invalid Invalid e = refl
-same_pointing Invalid Unknown e = absurd (not_known 0 (sym e))
-same_pointing Unknown (At y) e = absurd (not_known (suc y.0) e)
-same_pointing Unknown Invalid e = absurd (not_known 0 e)
-same_pointing Unknown Unknown e = refl
+same_pointer (At x) Invalid e = absurd (omega arith)
+same_pointer Invalid (At y) e = absurd (omega arith)
+same_pointer Invalid Invalid e = refl
+
+same_pointing : (a b : Single Pointer) → points a ≡ points b → a ≡ b
+same_pointing = same_fact pointer same_pointer
 
 pub same_knowledge : (a b : Knowledge) → Shaped a → Shaped b → ((f : Fact) → kview a f ≡ kview b f) → a ≡ b
 same_knowledge a b sa sb h =

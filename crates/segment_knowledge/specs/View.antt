@@ -1,23 +1,23 @@
 -- A knowledge as a function from facts to what is known of them.
-use Rattle.std.specs.Prelude.{ℕ, suc, List, get_or}
+use Rattle.std.specs.Prelude.{ℕ, List, get_or}
 use Rattle.rules.specs.Rule.{Rule}
 use Rattle.knowing.specs.Standing as Of
 use Rattle.knowing.specs.Ways as Ways
 use Rattle.segment.specs.declared.Sizes.{Sizes}
 use Rattle.segment.specs.Fact.{Fact, same?, range, cell_bits, led_bits, cell, address, data_mode, stepping, mode, dimming, display, led, key, switches, read_count, position}
-use Rattle.fact.specs.View.{stands}
+use Rattle.fact.specs.View.{stands, standing}
+use Rattle.fact.specs.declared.Single.{Single}
 use Rattle.key_codes.specs.View.{coded}
 use Rattle.lamps.specs.View as Lamps
 use Rattle.lamps.specs.View.{shown}
-use Rattle.segment_knowledge.specs.declared.Pointing.{Pointing}
-use Rattle.segment_knowledge.specs.declared.Pointing.TheVariants.{At, Invalid, Unknown as Anywhere}
+use Rattle.segment.specs.declared.Pointer.{Pointer}
+use Rattle.segment.specs.Value.{pointer}
 use Rattle.segment_knowledge.specs.declared.Knowledge.{Knowledge}
 use Rattle.segment_knowledge.specs.declared.Control.{Control}
 
-abbrev pub points : Pointing → Of.Standing
-points (At a) = Of.known (suc a.0)
-points Invalid = Of.known 0
-points Anywhere = Of.unknown
+-- What is known of the address: the number of a cell, or that it is invalid, or nothing.
+abbrev pub points : Single Pointer → Of.Standing
+points = standing pointer
 
 -- The facts beside the cells, and what is known of each bit of a cell.
 abbrev pub cview : (ℕ → ℕ → Of.Standing) → Control → Fact → Of.Standing

@@ -1,8 +1,6 @@
 // What is known of a PT6312 or PT6315 panel, as a value.
 #![tactic(auto)]
 
-mod numbers;
-
 ghost use Rattle.std.specs.Prelude.{◌≡◌, ℕ};
 ghost use Rattle.knowing.specs.Standing.{Standing as OfStanding, unknown};
 ghost use Rattle.knowing.specs.Ways.{Learns};
@@ -10,34 +8,29 @@ ghost use Rattle.segment.specs.Fact.{Fact, same?, data_mode, position};
 ghost use Rattle.segment_knowledge.specs.View.{cview, kview};
 
 use fact::Single;
-pub use numbers::{
+use segment::Pointer;
+pub use segment::{
     FIRST, FIXED, IDLE, IGNORING, INCREMENT, OFF, ON, OPEN, READ_KEYS, READ_SWITCHES,
     WRITE_DISPLAY, WRITE_LED,
 };
-use terms::Address;
 
-// The address: a cell, invalid, or unknown.
-#[derive(Clone, Copy)]
-pub enum Pointing {
-    At(Address),
-    Invalid,
-    Unknown,
-}
+// The address: known to be a cell, or invalid, or unknown.
+pub type Pointing = Single<Pointer>;
 
 // What is known beside the memory: what an event goes by, small enough to be handed on by value. The LED is a code of `lamps`, bit by bit. A key byte that is 256 is unknown, and one below is known to be that.
 #[derive(Clone, Copy)]
 pub struct Control {
     pub address: Pointing,
-    pub data: Single,
-    pub stepping: Single,
-    pub mode: Single,
-    pub dimming: Single,
-    pub display: Single,
+    pub data: Single<u8>,
+    pub stepping: Single<u8>,
+    pub mode: Single<u8>,
+    pub dimming: Single<u8>,
+    pub display: Single<u8>,
     pub led: u16,
     pub keys: [u16; 4],
-    pub switches: Single,
-    pub count: Single,
-    pub position: Single,
+    pub switches: Single<u8>,
+    pub count: Single<u8>,
+    pub position: Single<u8>,
 }
 
 // Nothing is known.

@@ -37,8 +37,6 @@ use Rattle.segment.specs.Laws.{every, led_tested}
 use Rattle.segment.specs.Value.{pointer, data_mode_of, steps, shows}
 use Rattle.segment.specs.Move.{written, to_mode, commanded, byte_in}
 use Rattle.segment_knowledge.specs.declared.Control.{Control}
-use Rattle.segment_knowledge.specs.declared.Pointing.{Pointing}
-use Rattle.segment_knowledge.specs.declared.Pointing.TheVariants.{Unknown as Anywhere}
 use Rattle.segment_knowledge.specs.View.{points, held, cview}
 use Rattle.segment_steps.specs.declared.Step.{Step}
 use Rattle.segment_steps.specs.Step.{sview, StaysInside, Steps}
@@ -51,7 +49,7 @@ abbrev pub commanded_as : Family → Command → Control → (ℕ → ℕ → Of
 commanded_as p m c cells = know same? (range (sizes p)) (commanded m) (learn same? position 1 (cview cells c))
 
 -- That of a mode command.
-pub moded_as : (p : Family) (c : Control) (m : ℕ) (shown : Single) → m ≤ (sizes p).top → stands shown ≡ display_in (stands c.mode) m (stands c.display)
+pub moded_as : (p : Family) (c : Control) (m : ℕ) (shown : Single ℕ) → m ≤ (sizes p).top → stands shown ≡ display_in (stands c.mode) m (stands c.display)
     → (cells : ℕ → ℕ → Of.Standing) (f : Fact) → cview cells (in_mode c m shown) f ≡ commanded_as p (Mode m) c cells f
 moded_as p c m shown small e cells f =
     mode_set (sizes p) (placed c (Known 1)) m shown small (top_room p) e cells f
@@ -73,7 +71,7 @@ in_order : (a b p q : Of.Standing) → join (join (join a b) q) p ≡ join (join
 in_order a b p q = join_late (join a b) q p ∙ ap (λ (s : Of.Standing). join s q) (join_late a b p) ∙ join_late (join a p) b q
 
 -- The step that does this to the cells and leaves these facts; keys, switches and position are those of c.
-abbrev pub made : Control → Change → Pointing → ℕ → Single → Single → Single → Single → Single → Single → Step
+abbrev pub made : Control → Change → Single Pointer → ℕ → Single ℕ → Single ℕ → Single ℕ → Single ℕ → Single ℕ → Single ℕ → Step
 made c x a l d i m o v n = record {
   control = record {
     address = a;
@@ -121,14 +119,14 @@ module _ (p : Family) (b : ℕ) (c : Control) (u : stands c.position ≡ unknown
   lost w = u ∙ join_not _ _ (sym (join_not _ _ u))
 
   -- Test mode forgets all but keys and switches.
-  pub perhaps_test : Test ≡ command_of (sizes p) b → Perhaps (made c Forget Anywhere 0 Unknown Unknown Unknown Unknown Unknown Unknown)
+  pub perhaps_test : Test ≡ command_of (sizes p) b → Perhaps (made c Forget Unknown 0 Unknown Unknown Unknown Unknown Unknown Unknown)
   unfolding opened
   perhaps_test is =
       perhaps_steps Test (commanded_as p Test c) is (λ cells f. refl) _ tt
       (λ cells. every _ (λ i k. join_nor _ _ refl) (join_nor _ _ refl) (join_nor _ _ refl) (join_nor _ _ refl) (join_nor _ _ refl) (join_nor _ _ refl) (join_nor _ _ refl)
       (λ k. rw (led_tested k) (none_shown 4 k ∙ join_nor _ _ refl)) (λ i. thrice _) (thrice _) (join_nor _ _ refl) (lost _))
 
-  module _ (x : Change) (a : Pointing) (l : ℕ) (met : x ≡ loose next.change) (at : points a ≡ join (points c.address) (points next.address))
+  module _ (x : Change) (a : Single Pointer) (l : ℕ) (met : x ≡ loose next.change) (at : points a ≡ join (points c.address) (points next.address))
       (lit : (k : ℕ) → shown 4 l k ≡ join (shown 4 c.led k) (shown 4 next.led k)) where
     inside : Inside 36 x
     inside = subst⁻¹ (λ (y : Change). Inside 36 y) met (loose_inside 36 next.change (data_in (Known 2)).inside)
@@ -137,7 +135,7 @@ module _ (p : Family) (b : ℕ) (c : Control) (u : stands c.position ≡ unknown
     cells_left cells i k = again _ _ _ (ap (λ (y : Change). seen 8 y i k (cells i k)) met ∙ loose_seen 8 next.change i k (cells i k))
 
     -- An address that may have been set.
-    pub perhaps_start : (to : Pointer) (start : Pointing) → Start to ≡ command_of (sizes p) b → points start ≡ join (points a) (known (pointer to))
+    pub perhaps_start : (to : Pointer) (start : Single Pointer) → Start to ≡ command_of (sizes p) b → points start ≡ join (points a) (known (pointer to))
         → Perhaps (made c x start l c.«data» c.stepping c.mode c.dimming c.display c.count)
     unfolding opened
     perhaps_start to start is e =
@@ -145,28 +143,28 @@ module _ (p : Family) (b : ℕ) (c : Control) (u : stands c.position ≡ unknown
         (λ cells. every _ (cells_left cells) (e ∙ ap (λ (s : Of.Standing). join s (known (pointer to))) at) (thrice _) (thrice _) (thrice _) (thrice _) (thrice _) (λ k. again _ _ _ (lit k)) (λ i. thrice _) (thrice _) (thrice _) (lost _))
 
     -- A data setting, with any data mode or with one.
-    pub perhaps_setting : (d : Data) (i : Stepping) (new step count : Single) → Setting d i ≡ command_of (sizes p) b → stands new ≡ join (stands c.«data») (known (data_mode_of d))
+    pub perhaps_setting : (d : Data) (i : Stepping) (new step count : Single ℕ) → Setting d i ≡ command_of (sizes p) b → stands new ≡ join (stands c.«data») (known (data_mode_of d))
         → stands step ≡ join (stands c.stepping) (known (steps i)) → stands count ≡ join (stands c.count) (known 0) → Perhaps (made c x a l new step c.mode c.dimming c.display count)
     unfolding opened
     perhaps_setting d i new step count is e f g =
         perhaps_steps (Setting d i) (commanded_as p (Setting d i) c) is (λ cells f. refl) _ inside
         (λ cells. every _ (cells_left cells) (again _ _ _ at) (twice _ _ _ e) (twice _ _ _ f) (thrice _) (thrice _) (thrice _) (λ k. again _ _ _ (lit k)) (λ i. thrice _) (thrice _) (twice _ _ _ g) (lost _))
 
-    pub perhaps_any : (i : Stepping) (step count : Single) → AnySetting i ≡ command_of (sizes p) b → stands step ≡ join (stands c.stepping) (known (steps i)) → stands count ≡ join (stands c.count) (known 0)
+    pub perhaps_any : (i : Stepping) (step count : Single ℕ) → AnySetting i ≡ command_of (sizes p) b → stands step ≡ join (stands c.stepping) (known (steps i)) → stands count ≡ join (stands c.count) (known 0)
         → Perhaps (made c x a l Unknown step c.mode c.dimming c.display count)
     unfolding opened
     perhaps_any i step count is f g =
         perhaps_steps (AnySetting i) (commanded_as p (AnySetting i) c) is (λ cells f. refl) _ inside
         (λ cells. every _ (cells_left cells) (again _ _ _ at) (join_nor _ _ refl) (twice _ _ _ f) (thrice _) (thrice _) (thrice _) (λ k. again _ _ _ (lit k)) (λ i. thrice _) (thrice _) (twice _ _ _ g) (lost _))
 
-    pub perhaps_control : (n : ℕ) (o : Display) (dim shows' : Single) → Controls n o ≡ command_of (sizes p) b → stands dim ≡ join (stands c.dimming) (known n)
+    pub perhaps_control : (n : ℕ) (o : Display) (dim shows' : Single ℕ) → Controls n o ≡ command_of (sizes p) b → stands dim ≡ join (stands c.dimming) (known n)
         → stands shows' ≡ join (stands c.display) (known (shows o)) → Perhaps (made c x a l c.«data» c.stepping c.mode dim shows' c.count)
     unfolding opened
     perhaps_control n o dim shows' is e f =
         perhaps_steps (Controls n o) (commanded_as p (Controls n o) c) is (λ cells f. refl) _ inside
         (λ cells. every _ (cells_left cells) (again _ _ _ at) (thrice _) (thrice _) (thrice _) (twice _ _ _ e) (twice _ _ _ f) (λ k. again _ _ _ (lit k)) (λ i. thrice _) (thrice _) (thrice _) (lost _))
 
-    pub perhaps_mode : (n : ℕ) (off new shows' : Single) → Mode n ≡ command_of (sizes p) b → stands off ≡ display_in (stands c.mode) n (stands c.display) → stands new ≡ join (stands c.mode) (known n)
+    pub perhaps_mode : (n : ℕ) (off new shows' : Single ℕ) → Mode n ≡ command_of (sizes p) b → stands off ≡ display_in (stands c.mode) n (stands c.display) → stands new ≡ join (stands c.mode) (known n)
         → stands shows' ≡ join (stands c.display) (stands off) → Perhaps (made c x a l c.«data» c.stepping new c.dimming shows' c.count)
     unfolding opened
     perhaps_mode n off new shows' is h e f =
@@ -174,7 +172,7 @@ module _ (p : Family) (b : ℕ) (c : Control) (u : stands c.position ≡ unknown
         (λ cells. every _ (cells_left cells) (again _ _ _ at) (thrice _) (thrice _) (twice _ _ _ e) (thrice _) (twice _ _ _ f) (λ k. again _ _ _ (lit k)) (λ i. thrice _) (thrice _) (thrice _) (lost _))
 
 -- Said of the facts in other words.
-pub perhaps_as : (P : Step → Type 0) (c : Control) {x x' : Change} {a a' : Pointing} {l l' : ℕ} {d d' i i' m m' o o' v v' n n' : Single} → a ≡ a' → l ≡ l' → x ≡ x' → d ≡ d' → i ≡ i' → m ≡ m' → o ≡ o' → v ≡ v' → n ≡ n'
+pub perhaps_as : (P : Step → Type 0) (c : Control) {x x' : Change} {a a' : Single Pointer} {l l' : ℕ} {d d' i i' m m' o o' v v' n n' : Single ℕ} → a ≡ a' → l ≡ l' → x ≡ x' → d ≡ d' → i ≡ i' → m ≡ m' → o ≡ o' → v ≡ v' → n ≡ n'
     → P (made c x' a' l' d' i' m' o' v' n') → P (made c x a l d i m o v n)
 perhaps_as P c ea el ex ed ei em eo ev en h = rw (ea, el, ex, ed, ei, em, eo, ev, en) h
 
@@ -205,7 +203,7 @@ pub any_mode : (n : ℕ) (m v : Of.Standing) → m ≡ unknown → v ≡ join v 
 any_mode n m v u e = rw u (join_not _ _ refl, sym (ap (join v) (sym e) ∙ join_itself v))
 
 -- A fact of which that is known.
-said : Of.Standing → Single
+said : Of.Standing → Single ℕ
 said (known v) = Known v
 said unknown = Unknown
 

@@ -30,8 +30,10 @@ use Rattle.segment.specs.Range.{two}
 use Rattle.segment.specs.Touch.{byte_in_leaves_inputs}
 use Rattle.segment.specs.Move.{after, lights, stored, written, byte_in, move}
 use Rattle.segment_knowledge.specs.declared.Control.{Control}
-use Rattle.segment_knowledge.specs.declared.Pointing.{Pointing}
-use Rattle.segment_knowledge.specs.declared.Pointing.TheVariants.{At, Unknown}
+use Rattle.fact.specs.declared.Single.{Single}
+use Rattle.fact.specs.declared.Single.TheVariants.{Known, Unknown}
+use Rattle.segment.specs.declared.Pointer.{Pointer}
+use Rattle.segment.specs.declared.Pointer.TheVariants.{At}
 use Rattle.segment_knowledge.specs.View.{points, cview}
 use Rattle.segment_known.specs.declared.everyday.Target.{Target}
 use Rattle.segment_known.specs.declared.everyday.Target.TheVariants.{Cell, Anywhere, Perhaps, PerhapsCell, PerhapsLed, Nowhere, Led, Elsewhere}
@@ -104,7 +106,7 @@ PerhapsAt s at Led = ⊥
 PerhapsAt s at Elsewhere = Unit
 
 -- A byte while the strobe is open goes by the data mode.
-data_step : (p : Family) (c : Control) (b : ℕ) {at : Pointing} {light : ℕ} {x : Change} → stands c.position ≡ known (at_position Open)
+data_step : (p : Family) (c : Control) (b : ℕ) {at : Single Pointer} {light : ℕ} {x : Change} → stands c.position ≡ known (at_position Open)
     → Steps (sizes p) (look data_mode (written (sizes p) b)) c (record { control = writing c at light; change = x })
     → Steps (sizes p) (move (sizes p) (ByteIn b)) c (record { control = writing c at light; change = x })
 data_step p c b o h = step_known (sizes p) position (byte_in (sizes p) b) c 2 (λ cells. o) h
@@ -152,7 +154,7 @@ drifts_at p c l r b code to h inside o lit step =
     s : Sizes
     s = sizes p
 
-    through : (next : Pointing) → points next ≡ stepped_on s to.0 (stands c.stepping) → points r.address ≡ join (points next) (points c.address)
+    through : (next : Single Pointer) → points next ≡ stepped_on s to.0 (stands c.stepping) → points r.address ≡ join (points next) (points c.address)
         → Steps s (look data_mode (written s b)) c (record { control = writing c r.address l.led; change = Meet to 1 1 b })
     through next e j =
         perhaps_written p c b (record { address = next; change = Put to b }) r.address l.led
@@ -160,8 +162,8 @@ drifts_at p c l r b code to h inside o lit step =
 
     go : (t : Standing) → stands c.stepping ≡ t → points r.address ≡ perhaps_on to.0 (stands c.stepping) → Steps s (look data_mode (written s b)) c (record { control = writing c r.address l.led; change = Meet to 1 1 b })
     go (known zero) u a =
-        through (At (record { 0 = whether (ltb (to.0 + 1) s.cells) (to.0 + 1) 0 })) (rw u refl) ((rw u at a) ∙ join_other _ _ _ _ refl h.address (moves_on p to.0))
-    go (known (suc v)) u a = through (At to) (rw u refl) ((rw u at a) ∙ sym (join_itself _) ∙ ap (join (known (suc to.0))) (sym h.address))
+        through (Known (At (record { 0 = whether (ltb (to.0 + 1) s.cells) (to.0 + 1) 0 }))) (rw u refl) ((rw u at a) ∙ join_other _ _ _ _ refl h.address (moves_on p to.0))
+    go (known (suc v)) u a = through (Known (At to)) (rw u refl) ((rw u at a) ∙ sym (join_itself _) ∙ ap (join (known (suc to.0))) (sym h.address))
     go unknown u a = through Unknown (rw u refl) ((rw u at a) ∙ join_not unknown _ refl)
 
 module _ (p : Family) (c : Control) where
@@ -204,13 +206,13 @@ module _ (p : Family) (c : Control) where
   perhaps_at Elsewhere o w h = tt
 
 -- The address of cell a, and 00H behind the last.
-abbrev pub ring : Sizes → ℕ → Pointing
-ring s a = At (record { 0 = whether (ltb a s.cells) a 0 })
+abbrev pub ring : Sizes → ℕ → Single Pointer
+ring s a = Known (At (record { 0 = whether (ltb a s.cells) a 0 }))
 
-pub ring_within : (s : Sizes) (a : ℕ) → a < s.cells → At (record { 0 = a }) ≡ ring s a
+pub ring_within : (s : Sizes) (a : ℕ) → a < s.cells → Known (At (record { 0 = a })) ≡ ring s a
 ring_within s a h = rw (lt-ltb a s.cells h) refl
 
-pub ring_round : (s : Sizes) (a : ℕ) → s.cells ≤ a → At (record { 0 = 0 }) ≡ ring s a
+pub ring_round : (s : Sizes) (a : ℕ) → s.cells ≤ a → Known (At (record { 0 = 0 })) ≡ ring s a
 ring_round s a h = rw (le-ltb a s.cells h) refl
 
 -- Bytes are stored one behind the other from a cell on, and not past the last one.

@@ -53,7 +53,7 @@ other_place d t (suc (suc zero)) h = absurd (h refl)
 other_place d t (suc (suc (suc p))) h = refl
 
 -- The same with another read count.
-abbrev pub counting : Control → Single → Control
+abbrev pub counting : Control → Single ℕ → Control
 counting c n = record {
   address = c.address;
   «data» = c.«data»;
@@ -181,7 +181,7 @@ module _ (s : Sizes) (modes : 3 ≤ range s data_mode) where
           f)
 
 -- A control with the read count that comes of it.
-pub counted_out : (p : Family) (c : Control) (n : Single) → stands n ≡ count_out (stands c.position) (stands c.«data») (stands c.count) → Keeps (sizes p) (look position byte_out) c (counting c n)
+pub counted_out : (p : Family) (c : Control) (n : Single ℕ) → stands n ≡ count_out (stands c.position) (stands c.«data») (stands c.count) → Keeps (sizes p) (look position byte_out) c (counting c n)
 counted_out p c n e cells f =
     every (λ (f : Fact). cview cells (counting c n) f ≡ recount (cview cells c) (stands n) f) (λ i k. refl) refl refl refl refl refl refl (λ k. refl) (λ i. refl) refl refl refl f
     ∙ ap (λ (t : Standing). recount (cview cells c) t f) e

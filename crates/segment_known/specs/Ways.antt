@@ -80,7 +80,7 @@ display_in (Of.known old) m shown = whether (eqb old m) shown (Of.known (shows O
 display_in Of.unknown m shown = join shown (Of.known (shows Off))
 
 -- The same in mode m, with that known of the display, and ignoring.
-abbrev pub in_mode : Beside → ℕ → Single → Beside
+abbrev pub in_mode : Beside → ℕ → Single ℕ → Beside
 in_mode c m shown = record {
   address = c.address;
   «data» = c.«data»;
@@ -124,7 +124,7 @@ top_room Pt6312 = omega arith
 top_room Pt6315 = omega arith
 
 -- A mode command, whatever is known of the mode so far.
-pub mode_set : (s : Sizes) (c : Beside) (m : ℕ) (shown : Single) → m ≤ s.top → 1 ≤ s.top → stands shown ≡ display_in (stands c.mode) m (stands c.display)
+pub mode_set : (s : Sizes) (c : Beside) (m : ℕ) (shown : Single ℕ) → m ≤ s.top → 1 ≤ s.top → stands shown ≡ display_in (stands c.mode) m (stands c.display)
     → Keeps s (look mode (to_mode m)) c (in_mode c m shown)
 mode_set s c m shown small room e cells = go (stands c.mode) refl e
   where

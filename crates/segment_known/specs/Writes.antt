@@ -15,6 +15,7 @@ use Rattle.knowing.specs.Look.{look_unknown, know_same}
 use Rattle.fact.specs.View.{stands}
 use Rattle.fact.specs.declared.Single.{Single}
 use Rattle.fact.specs.declared.Single.TheVariants.{Known}
+use Rattle.segment.specs.declared.Pointer.{Pointer}
 use Rattle.lamps.specs.View.{shown, told, met, OfByte, Puts, Meets}
 use Rattle.lamps.specs.Lamp.{wide4, byte_none_past, byte_met_code}
 use Rattle.changes.specs.declared.Change.{Change}
@@ -31,7 +32,6 @@ use Rattle.segment.specs.Fact.{Fact, same?, range, cell, address, data_mode, ste
 use Rattle.segment.specs.Laws.{every, room, cells_apart, leds_apart}
 use Rattle.segment.specs.Move.{nothing, lights, after, stored_at, stored, written}
 use Rattle.segment_knowledge.specs.declared.Control.{Control}
-use Rattle.segment_knowledge.specs.declared.Pointing.{Pointing}
 use Rattle.segment_knowledge.specs.View.{points, cview}
 use Rattle.segment_known.specs.declared.stored.Stored.{Stored}
 use Rattle.segment_known.specs.declared.bytes.Written.{Written}
@@ -43,7 +43,7 @@ use Rattle.segment_known.specs.Cells.{somewhere_steps}
 use Rattle.segment_known.specs.Ways.{other_written}
 
 -- The same with another address and another LED.
-abbrev pub writing : Control → Pointing → ℕ → Control
+abbrev pub writing : Control → Single Pointer → ℕ → Control
 writing c at light = record {
   address = at;
   «data» = c.«data»;
@@ -58,16 +58,16 @@ writing c at light = record {
   position = c.position;
 }
 
-abbrev pub pointing : Control → Pointing → Control
+abbrev pub pointing : Control → Single Pointer → Control
 pointing c at = writing c at c.led
 
 -- What a data byte makes of the address and of the cells where it is stored, whatever else is known.
-abbrev pub Stores : Sizes → ℕ → Pointing → Single → Stored → Type 0
+abbrev pub Stores : Sizes → ℕ → Single Pointer → Single ℕ → Stored → Type 0
 Stores s b at step r = (c : Control) → points c.address ≡ points at → stands c.stepping ≡ stands step
     → Steps s (look address (stored s b)) c (record { control = pointing c r.address; change = r.change })
 
 -- The same at another position.
-abbrev pub placed : Control → Single → Control
+abbrev pub placed : Control → Single ℕ → Control
 placed c q = record {
   address = c.address;
   «data» = c.«data»;
@@ -84,7 +84,7 @@ placed c q = record {
 
 -- What a data byte makes of the address, of the LED and of the cells, whatever is known of the position.
 abbrev pub Writes : Sizes → ℕ → Control → Written → Type 0
-Writes s b c r = (q : Single) → Steps s (look data_mode (written s b)) (placed c q) (record { control = writing (placed c q) r.address r.led; change = r.change })
+Writes s b c r = (q : Single ℕ) → Steps s (look data_mode (written s b)) (placed c q) (record { control = writing (placed c q) r.address r.led; change = r.change })
 
 -- The address behind a byte that is stored in cell i, by the stepping.
 abbrev pub stepped_on : Sizes → ℕ → Of.Standing → Of.Standing
@@ -139,7 +139,7 @@ moves_on p i e = go (dec_lt (i + 1) (sizes p).cells) e
     go (no h) e = let z : suc 0 ≡ suc i = rw (le-ltb (i + 1) (sizes p).cells (omega (arith, h))) at e in omega (arith, z, h, several p)
 
 -- A byte stored in a cell of the part.
-pub stored_in : (p : Family) (c : Control) (to : Address) (b : ℕ) (next : Pointing) → to.0 < (sizes p).cells → points c.address ≡ known (suc to.0)
+pub stored_in : (p : Family) (c : Control) (to : Address) (b : ℕ) (next : Single Pointer) → to.0 < (sizes p).cells → points c.address ≡ known (suc to.0)
     → points next ≡ stepped_on (sizes p) to.0 (stands c.stepping) → Steps (sizes p) (look address (stored (sizes p) b)) c (record { control = pointing c next; change = Put to b })
 unfolding set_bits common
 stored_in p c to b next h a e =
@@ -174,7 +174,7 @@ stored_in p c to b next h a e =
             (sym (join_itself _)) (u ∙ join_other _ _ 0 1 refl refl (λ z. omega (arith, z))) (sym (join_itself _)) (sym (join_itself _)) (sym (join_itself _)) (λ k. sym (join_itself _)) (λ i. sym (join_itself _)) (sym (join_itself _)) (sym (join_itself _)) (sym (join_itself _))
 
 -- An address that says the same.
-pub pointed : (s : Sizes) {rule : Rule Fact Fact} {c : Control} {at : Pointing} {x : Change} → points at ≡ points c.address → Steps s rule c (record { control = c; change = x })
+pub pointed : (s : Sizes) {rule : Rule Fact Fact} {c : Control} {at : Single Pointer} {x : Change} → points at ≡ points c.address → Steps s rule c (record { control = c; change = x })
     → Steps s rule c (record { control = pointing c at; change = x })
 pointed s e h = record {
   knows = λ cells.
@@ -184,12 +184,12 @@ pointed s e h = record {
 }
 
 -- A byte that is not stored, since the address is not that of a cell.
-pub stored_nowhere : (s : Sizes) (c : Control) (b v : ℕ) (at : Pointing) → points c.address ≡ points at → points at ≡ known v → stored s b v ≡ nothing
+pub stored_nowhere : (s : Sizes) (c : Control) (b v : ℕ) (at : Single Pointer) → points c.address ≡ points at → points at ≡ known v → stored s b v ≡ nothing
     → Steps s (look address (stored s b)) c (record { control = pointing c at; change = Keep })
 stored_nowhere s c b v at e a n = pointed s (sym e) (step_known s address (stored s b) c v (λ cells. e ∙ a) (as_steps s n (kept_steps s refl (λ cells f. refl))))
 
 -- The data mode is unknown.
-pub perhaps_written : (p : Family) (c : Control) (b : ℕ) (at : Stored) (next : Pointing) (light : ℕ) → Stores (sizes p) b c.address c.stepping at → stands c.«data» ≡ unknown
+pub perhaps_written : (p : Family) (c : Control) (b : ℕ) (at : Stored) (next : Single Pointer) (light : ℕ) → Stores (sizes p) b c.address c.stepping at → stands c.«data» ≡ unknown
     → points next ≡ join (points at.address) (points c.address) → ((k : ℕ) → shown 4 light k ≡ met 4 b k (shown 4 c.led k))
     → Steps (sizes p) (look data_mode (written (sizes p) b)) c (record { control = writing c next light; change = loose at.change })
 unfolding set_bits

@@ -13,11 +13,11 @@ use crate::commanded::first_in;
 use crate::perhaps::perhaps_in;
 use crate::stored::stored_by;
 use changes::{Change, loosened};
-use fact::Single;
+use fact::{Single, both};
 use lamps::{FOUR, code_of, meet_code, put_byte};
 use segment::Family;
 use segment_knowledge::{Control, FIRST, OPEN, Pointing, WRITE_DISPLAY, WRITE_LED};
-use segment_steps::{Step, both_pointing, kept};
+use segment_steps::{Step, kept};
 
 pub fn byte_in(family: Family, c: Control, byte: u8) -> Step
     ensures { Steps (sizes family) (look position (byte_in (sizes family) byte)) c result }
@@ -96,7 +96,7 @@ fn perhaps_written(family: Family, c: Control, byte: u8) -> Written
     let to = stored.address;
     let change = stored.change;
     Written {
-        address: both_pointing(to, address),
+        address: both(to, address),
         led: meet_code(FOUR, led, code_of(FOUR, byte)),
         change: loosened(change),
     }

@@ -5,20 +5,14 @@ ghost use Rattle.segment.specs.Command.{command_of};
 ghost use Rattle.segment.specs.Fact.{mode};
 ghost use Rattle.segment.specs.Family.{sizes};
 ghost use Rattle.segment.specs.Move.{to_mode, tested, commanded};
-ghost use Rattle.segment.specs.Value.{pointer, data_mode_of, steps, shows};
-ghost use Rattle.segment_knowledge.specs.View.{points};
 ghost use Rattle.segment_steps.specs.Step.{Steps, Keeps, Forgets};
-ghost use Rattle.knowing.specs.Standing.{known};
 ghost use Rattle.fact.specs.View.{stands};
 ghost use Rattle.segment_known.specs.Ways.{display_in};
 
-use fact::{Single, both_singles};
+use fact::{Single, both};
 use segment::{Command, Data, Display, Family, Pointer, Stepping};
 use segment_first_byte::command_of;
-use segment_knowledge::{
-    Control, FIXED, IGNORING, INCREMENT, OFF, ON, OPEN, Pointing, READ_KEYS, READ_SWITCHES,
-    WRITE_DISPLAY, WRITE_LED,
-};
+use segment_knowledge::{Control, IGNORING, OFF, OPEN, Pointing};
 use segment_steps::{Step, forgotten, kept};
 
 pub fn first_in(family: Family, mut c: Control, byte: u8) -> Step
@@ -42,11 +36,9 @@ pub fn first_in(family: Family, mut c: Control, byte: u8) -> Step
 pub fn data_set(family: Family, c: Control, data: Data, stepping: Stepping) -> Control
     ensures { Keeps (sizes family) (commanded (Command.Setting «data» stepping)) c result }
 {
-    let mode = data_number(data);
-    let step = step_number(stepping);
     Control {
-        data: Single::Known(mode),
-        stepping: Single::Known(step),
+        data: Single::Known(data.into()),
+        stepping: Single::Known(stepping.into()),
         count: Single::Known(0),
         position: Single::Known(OPEN),
         ..c
@@ -57,10 +49,9 @@ pub fn data_set(family: Family, c: Control, data: Data, stepping: Stepping) -> C
 pub fn stepping_set(family: Family, c: Control, stepping: Stepping) -> Control
     ensures { Keeps (sizes family) (commanded (Command.AnySetting stepping)) c result }
 {
-    let step = step_number(stepping);
     Control {
         data: Single::Unknown,
-        stepping: Single::Known(step),
+        stepping: Single::Known(stepping.into()),
         count: Single::Known(0),
         position: Single::Known(OPEN),
         ..c
@@ -70,10 +61,9 @@ pub fn stepping_set(family: Family, c: Control, stepping: Stepping) -> Control
 pub fn display_set(family: Family, c: Control, dimming: u8, display: Display) -> Control
     ensures { Keeps (sizes family) (commanded (Command.Control dimming display)) c result }
 {
-    let shown = display_number(display);
     Control {
         dimming: Single::Known(dimming),
-        display: Single::Known(shown),
+        display: Single::Known(display.into()),
         position: Single::Known(IGNORING),
         ..c
     }
@@ -82,49 +72,10 @@ pub fn display_set(family: Family, c: Control, dimming: u8, display: Display) ->
 pub fn address_set(family: Family, c: Control, to: Pointer) -> Control
     ensures { Keeps (sizes family) (commanded (Command.Start to)) c result }
 {
-    let address = known_pointing(to);
     Control {
-        address,
+        address: Pointing::Known(to),
         position: Single::Known(OPEN),
         ..c
-    }
-}
-
-pub fn data_number(data: Data) -> u8
-    ensures { result ≡ data_mode_of «data» }
-{
-    match data {
-        Data::WriteDisplay => WRITE_DISPLAY,
-        Data::WriteLed => WRITE_LED,
-        Data::ReadKeys => READ_KEYS,
-        Data::ReadSwitches => READ_SWITCHES,
-    }
-}
-
-pub fn step_number(stepping: Stepping) -> u8
-    ensures { result ≡ steps stepping }
-{
-    match stepping {
-        Stepping::Increment => INCREMENT,
-        Stepping::Fixed => FIXED,
-    }
-}
-
-pub fn display_number(display: Display) -> u8
-    ensures { result ≡ shows display }
-{
-    match display {
-        Display::Off => OFF,
-        Display::On => ON,
-    }
-}
-
-pub fn known_pointing(address: Pointer) -> Pointing
-    ensures { points result ≡ known (pointer address) }
-{
-    match address {
-        Pointer::At(cell) => Pointing::At(cell),
-        Pointer::Invalid => Pointing::Invalid,
     }
 }
 
@@ -145,7 +96,7 @@ pub fn to_mode(family: Family, c: Control, code: u8) -> Control
 }
 
 // What is known of the display when a mode command has come: another mode turns it off.
-pub fn display_in(old: Single, code: u8, shown: Single) -> Single
+pub fn display_in(old: Single<u8>, code: u8, shown: Single<u8>) -> Single<u8>
     ensures { stands result ≡ display_in (stands old) code (stands shown) }
 {
     match old {
@@ -156,7 +107,7 @@ pub fn display_in(old: Single, code: u8, shown: Single) -> Single
                 Single::Known(OFF)
             }
         }
-        Single::Unknown => both_singles(shown, Single::Known(OFF)),
+        Single::Unknown => both(shown, Single::Known(OFF)),
     }
 }
 

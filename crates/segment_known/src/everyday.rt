@@ -1,5 +1,5 @@
 // The events of every day, each in a function small enough to stand in the loop over the records: the strobe, and bytes whose way is known.
-ghost use Rattle.std.specs.Prelude.{◌≡◌, Bool, true, ℕ, ◌+◌, ◌≤◌, length};
+ghost use Rattle.std.specs.Prelude.{◌≡◌, Bool, true, ℕ, ◌+◌, ◌≤◌};
 ghost use Rattle.knowing.specs.Standing.{known};
 ghost use Rattle.fact.specs.View.{stands};
 ghost use Rattle.changes.specs.Change.{Met};
@@ -16,10 +16,10 @@ ghost use Rattle.segment_steps.specs.Step.{Keeps};
 ghost use Rattle.segment_known.specs.Everyday.{Hits, HitsAt, PerhapsAt, ring, PerhapsLit, PerhapsStepped, Lost};
 ghost use Rattle.segment_known.specs.Writes.{writing, pointing};
 
-use changes::meet_run;
+use changes::meet;
 use fact::{Single, is_known};
 use lamps::{EIGHT, FOUR, meet_code, put_byte};
-use segment::Family;
+use segment::{Family, Pointer};
 use segment_knowledge::{
     Control, FIRST, IDLE, INCREMENT, OPEN, Pointing, WRITE_DISPLAY, WRITE_LED, at,
 };
@@ -98,7 +98,7 @@ fn perhaps_at(family: Family, address: Pointing) -> Target
     ensures { PerhapsAt (sizes family) (points address) result }
 {
     match address {
-        Pointing::At(cell) => {
+        Pointing::Known(Pointer::At(cell)) => {
             let sizes = family.sizes();
             if cell.0 < sizes.cells {
                 Target::PerhapsCell(cell)
@@ -106,7 +106,7 @@ fn perhaps_at(family: Family, address: Pointing) -> Target
                 Target::Elsewhere
             }
         }
-        Pointing::Invalid => Target::PerhapsLed,
+        Pointing::Known(Pointer::Invalid) => Target::PerhapsLed,
         Pointing::Unknown => Target::Perhaps,
     }
 }
@@ -115,7 +115,7 @@ fn goes_at(family: Family, address: Pointing, counting: bool) -> Target
     ensures { HitsAt (sizes family) (points address) counting result }
 {
     match address {
-        Pointing::At(cell) => {
+        Pointing::Known(Pointer::At(cell)) => {
             let sizes = family.sizes();
             if counting {
                 if cell.0 < sizes.cells {
@@ -124,7 +124,7 @@ fn goes_at(family: Family, address: Pointing, counting: bool) -> Target
             }
             Target::Elsewhere
         }
-        Pointing::Invalid => Target::Nowhere,
+        Pointing::Known(Pointer::Invalid) => Target::Nowhere,
         Pointing::Unknown => Target::Anywhere,
     }
 }
@@ -138,20 +138,19 @@ pub fn counted_on(family: Family, c: Control, cell: Address, count: usize) -> Co
     let next = cell.0 + count as u8;
     let to = if next < sizes.cells { next } else { 0 };
     Control {
-        address: Pointing::At(Address(to)),
+        address: Pointing::Known(Pointer::At(Address(to))),
         ..c
     }
 }
 
 // Each of a run of bytes may have gone to any cell: each cell keeps what it has in common with what they have in common. Each part has a loop of its own, whose end
 // is a number that the compiler knows, so that it leaves no cells over.
-pub fn meets(family: Family, cells: &mut [u16], code: u16)
-    requires { length cells.old ≡ 36 }
+pub fn meets(family: Family, cells: &mut [u16; 36], code: u16)
     ensures { Met 65535 code cells.old 0 1 (sizes family).cells cells.new }
 {
     match family {
-        Family::Pt6312 => meet_run(cells, EIGHT, 0, 22, code),
-        Family::Pt6315 => meet_run(cells, EIGHT, 0, 36, code),
+        Family::Pt6312 => meet(cells, EIGHT, 0, 1, 22, code),
+        Family::Pt6315 => meet(cells, EIGHT, 0, 1, 36, code),
     }
 }
 
@@ -181,7 +180,7 @@ pub fn perhaps_stepped(c: Control, cell: Address) -> Control
     let address = match stepping {
         Single::Known(step) => match step {
             INCREMENT => Pointing::Unknown,
-            _ => Pointing::At(cell),
+            _ => Pointing::Known(Pointer::At(cell)),
         },
         Single::Unknown => Pointing::Unknown,
     };
@@ -192,37 +191,19 @@ pub fn perhaps_stepped(c: Control, cell: Address) -> Control
 pub fn nothing_left(c: Control) -> bool
     ensures { result ≡ true → Lost c }
 {
-    let position = c.position;
-    let Single::Unknown = position else {
-        return false;
-    };
-    let data = c.data;
-    let Single::Unknown = data else {
-        return false;
-    };
-    let stepping = c.stepping;
-    let Single::Unknown = stepping else {
-        return false;
-    };
-    let mode = c.mode;
-    let Single::Unknown = mode else {
-        return false;
-    };
-    let dimming = c.dimming;
-    let Single::Unknown = dimming else {
-        return false;
-    };
-    let display = c.display;
-    let Single::Unknown = display else {
-        return false;
-    };
-    let count = c.count;
-    let Single::Unknown = count else {
-        return false;
-    };
-    let address = c.address;
-    let Pointing::Unknown = address else {
-        return false;
-    };
-    c.led == 0
+    matches!(
+        c,
+        Control {
+            position: Single::Unknown,
+            data: Single::Unknown,
+            stepping: Single::Unknown,
+            mode: Single::Unknown,
+            dimming: Single::Unknown,
+            display: Single::Unknown,
+            count: Single::Unknown,
+            address: Pointing::Unknown,
+            led: 0,
+            ..
+        }
+    )
 }

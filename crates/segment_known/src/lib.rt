@@ -1,4 +1,5 @@
-// What one event makes of what is known of a PT6312 or PT6315 panel: exactly what all chips that fit agree on.
+// What one event makes of what is known of a PT6312 or PT6315 panel: exactly what all chips that fit agree on. The family stands beside what is known and not in it, since it is the part byte's, which
+// each call reads anew, and since what is known would have to be taken apart and put together at every event.
 #![tactic(auto)]
 
 mod bytes;

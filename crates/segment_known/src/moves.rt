@@ -1,5 +1,4 @@
 // What each event makes of a knowledge.
-ghost use Rattle.std.specs.Prelude.{length, ◌≡◌};
 ghost use Rattle.rules.specs.Rule.{gives};
 ghost use Rattle.segment.specs.Family.{sizes};
 ghost use Rattle.segment.specs.Move.{powered, move};
@@ -13,7 +12,7 @@ use crate::reads::byte_out;
 use applying::apply;
 use fact::Single;
 use lamps::{EIGHT, FOUR, put_byte};
-use segment::Family;
+use segment::{Family, Pointer};
 use segment_knowledge::{Control, IDLE, INCREMENT, Knowledge, OFF, Pointing, WRITE_DISPLAY};
 use segment_steps::{Step, forgotten, kept, lost};
 use terms::{Address, Event};
@@ -50,7 +49,7 @@ fn at_power(family: Family, c: Control) -> Control
     let old = c.led;
     let led = put_byte(FOUR, old, sizes.led);
     Control {
-        address: Pointing::At(Address(0)),
+        address: Pointing::Known(Pointer::At(Address(0))),
         data: Single::Known(WRITE_DISPLAY),
         stepping: Single::Known(INCREMENT),
         mode: Single::Known(sizes.top),
@@ -65,13 +64,11 @@ fn at_power(family: Family, c: Control) -> Control
 }
 
 // An event taken through a knowledge, whose cells are changed where they stand.
-pub fn taken(family: Family, c: Control, cells: &mut [u16], event: Event) -> Control
-    requires { length cells.old ≡ 36 }
+pub fn taken(family: Family, c: Control, cells: &mut [u16; 36], event: Event) -> Control
     ensures { Knows (sizes family) (move (sizes family) event) (record { cells = cells.old; control = c }) (record { cells = cells.new; control = result }) }
 {
     let next = step(family, c, event);
-    let change = next.change;
-    apply(cells, EIGHT, change);
+    apply(cells, EIGHT, next.change);
     next.control
 }
 
@@ -79,7 +76,7 @@ pub fn taken(family: Family, c: Control, cells: &mut [u16], event: Event) -> Con
 pub fn moved(family: Family, k: Knowledge, event: Event) -> Knowledge
     ensures { Knows (sizes family) (move (sizes family) event) k result }
 {
-    let mut cells = k.cells;
-    let control = taken(family, k.control, &mut cells, event);
+    let Knowledge { mut cells, control } = k;
+    let control = taken(family, control, &mut cells, event);
     Knowledge { cells, control }
 }

@@ -11,14 +11,14 @@ ghost use Rattle.segment_steps.specs.Step.{Steps};
 ghost use Rattle.segment_known.specs.Anywhere.{Quiet, StaysModed, Unmoved};
 
 use crate::bytes::data_in;
-use crate::commanded::{data_number, display_in, display_number, known_pointing, step_number};
+use crate::commanded::display_in;
 use changes::{Change, all_agree, loosened};
-use fact::{Single, both_singles};
+use fact::{Single, both};
 use lamps::{FOUR, both_lamps, put_byte};
 use segment::{Command, Family};
 use segment_first_byte::command_of;
 use segment_knowledge::{Control, OFF, Pointing, WRITE_DISPLAY, WRITE_LED};
-use segment_steps::{Step, both_pointing};
+use segment_steps::Step;
 
 pub fn perhaps_in(family: Family, c: Control, byte: u8) -> Step
     requires { stands c.position ≡ unknown }
@@ -28,7 +28,7 @@ pub fn perhaps_in(family: Family, c: Control, byte: u8) -> Step
     let to = next.address;
     let stored = next.change;
     let from = c.address;
-    let mut address = both_pointing(from, to);
+    let mut address = both(from, to);
     let mut led = both_lamps(c.led, next.led);
     let mut change = loosened(stored);
     let mut data = c.data;
@@ -41,7 +41,7 @@ pub fn perhaps_in(family: Family, c: Control, byte: u8) -> Step
     match command {
         Command::Mode(code) => {
             let off = display_in(mode, code, display);
-            display = both_singles(display, off);
+            display = both(display, off);
             mode = perhaps(mode, code);
         }
         Command::Test => {
@@ -56,20 +56,20 @@ pub fn perhaps_in(family: Family, c: Control, byte: u8) -> Step
             change = Change::Forget;
         }
         Command::Setting(kind, step) => {
-            data = perhaps(data, data_number(kind));
-            stepping = perhaps(stepping, step_number(step));
+            data = perhaps(data, u8::from(kind));
+            stepping = perhaps(stepping, u8::from(step));
             count = perhaps(count, 0);
         }
         Command::AnySetting(step) => {
             data = Single::Unknown;
-            stepping = perhaps(stepping, step_number(step));
+            stepping = perhaps(stepping, u8::from(step));
             count = perhaps(count, 0);
         }
         Command::Control(level, shown) => {
             dimming = perhaps(dimming, level);
-            display = perhaps(display, display_number(shown));
+            display = perhaps(display, u8::from(shown));
         }
-        Command::Start(start) => address = both_pointing(address, known_pointing(start)),
+        Command::Start(start) => address = both(address, Pointing::Known(start)),
     }
     Step {
         control: Control {
@@ -88,10 +88,10 @@ pub fn perhaps_in(family: Family, c: Control, byte: u8) -> Step
 }
 
 // The fact may have become v.
-fn perhaps(s: Single, v: u8) -> Single
+fn perhaps(s: Single<u8>, v: u8) -> Single<u8>
     ensures { stands result ≡ join (stands s) (known v) }
 {
-    both_singles(s, Single::Known(v))
+    both(s, Single::Known(v))
 }
 
 // At an unknown position this byte changes nothing that is known: as data it leaves all as it is, and what it would set as a command is unknown or has that value already. A data setting, and what may
@@ -110,23 +110,11 @@ pub fn unmoved(family: Family, c: Control, cells: &[u16], byte: u8) -> bool
             let mode = c.mode;
             stays_moded(mode, code, display)
         }
-        Command::Test => false,
-        Command::Setting(_, _) => false,
-        Command::AnySetting(_) => false,
+        Command::Test | Command::Setting(_, _) | Command::AnySetting(_) => false,
         Command::Control(level, shown) => {
-            let dimming = c.dimming;
-            if !stays(dimming, level) {
-                return false;
-            }
-            stays(display, display_number(shown))
+            stays(c.dimming, level) && stays(display, u8::from(shown))
         }
-        Command::Start(_) => {
-            let address = c.address;
-            let Pointing::Unknown = address else {
-                return false;
-            };
-            true
-        }
+        Command::Start(_) => matches!(c.address, Pointing::Unknown),
     }
 }
 
@@ -155,7 +143,7 @@ fn quiet(family: Family, c: Control, cells: &[u16], byte: u8) -> bool
 }
 
 // A mode command changes nothing: the mode is that one, or the mode is unknown and so is the display, or it is off.
-fn stays_moded(mode: Single, code: u8, display: Single) -> bool
+fn stays_moded(mode: Single<u8>, code: u8, display: Single<u8>) -> bool
     ensures { result ≡ true → StaysModed (stands mode) code (stands display) }
 {
     match mode {
@@ -165,7 +153,7 @@ fn stays_moded(mode: Single, code: u8, display: Single) -> bool
 }
 
 // The fact is unknown, or it is v.
-fn stays(s: Single, v: u8) -> bool
+fn stays(s: Single<u8>, v: u8) -> bool
     ensures { result ≡ true → stands s ≡ join (stands s) (known v) }
 {
     match s {

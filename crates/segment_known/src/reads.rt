@@ -8,7 +8,7 @@ ghost use Rattle.fact.specs.View.{stands};
 ghost use Rattle.segment_steps.specs.Step.{Keeps};
 ghost use Rattle.segment_known.specs.Reads.{counts, mode_out, count_out};
 
-use fact::{Single, both_singles};
+use fact::{Single, both};
 use segment::Family;
 use segment_knowledge::{Control, OPEN, READ_KEYS};
 
@@ -23,7 +23,7 @@ pub fn byte_out(family: Family, c: Control) -> Control
 }
 
 // The read count goes on while the chip is open. Where the position is unknown, it may have gone on or not.
-fn count_out(position: Single, data: Single, count: Single) -> Single
+fn count_out(position: Single<u8>, data: Single<u8>, count: Single<u8>) -> Single<u8>
     ensures { stands result ≡ count_out (stands position) (stands «data») (stands count) }
 {
     match position {
@@ -31,12 +31,12 @@ fn count_out(position: Single, data: Single, count: Single) -> Single
             OPEN => mode_out(data, count),
             _ => count,
         },
-        Single::Unknown => both_singles(count, mode_out(data, count)),
+        Single::Unknown => both(count, mode_out(data, count)),
     }
 }
 
 // The same while it is open: in a read mode it goes on, and where the mode is unknown, it may have gone on or not.
-fn mode_out(data: Single, count: Single) -> Single
+fn mode_out(data: Single<u8>, count: Single<u8>) -> Single<u8>
     ensures { stands result ≡ mode_out (stands «data») (stands count) }
 {
     match data {
@@ -47,11 +47,11 @@ fn mode_out(data: Single, count: Single) -> Single
                 counted_up(count)
             }
         }
-        Single::Unknown => both_singles(count, counted_up(count)),
+        Single::Unknown => both(count, counted_up(count)),
     }
 }
 
-fn counted_up(count: Single) -> Single
+fn counted_up(count: Single<u8>) -> Single<u8>
     ensures { stands result ≡ counts (stands count) }
 {
     match count {

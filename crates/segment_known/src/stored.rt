@@ -5,10 +5,9 @@ ghost use Rattle.fact.specs.View.{stands};
 ghost use Rattle.segment_knowledge.specs.View.{points};
 ghost use Rattle.segment_known.specs.Writes.{stepped_on, Stores};
 
-use crate::commanded::known_pointing;
 use changes::Change;
 use fact::Single;
-use segment::{Family, behind};
+use segment::{Family, Pointer, behind};
 use segment_knowledge::{INCREMENT, Pointing};
 use terms::Address;
 
@@ -19,11 +18,11 @@ pub struct Stored {
     pub change: Change,
 }
 
-pub fn stored_by(family: Family, address: Pointing, stepping: Single, byte: u8) -> Stored
+pub fn stored_by(family: Family, address: Pointing, stepping: Single<u8>, byte: u8) -> Stored
     ensures { Stores (sizes family) byte address stepping result }
 {
     match address {
-        Pointing::At(cell) => {
+        Pointing::Known(Pointer::At(cell)) => {
             let sizes = family.sizes();
             if cell.0 < sizes.cells {
                 Stored {
@@ -37,7 +36,7 @@ pub fn stored_by(family: Family, address: Pointing, stepping: Single, byte: u8) 
                 }
             }
         }
-        Pointing::Invalid => Stored {
+        Pointing::Known(Pointer::Invalid) => Stored {
             address,
             change: Change::Keep,
         },
@@ -52,14 +51,14 @@ pub fn stored_by(family: Family, address: Pointing, stepping: Single, byte: u8) 
 }
 
 // The address behind a byte that is stored in a cell: where the stepping is unknown, it may have stepped on or not.
-fn stepped(family: Family, cell: Address, stepping: Single) -> Pointing
+fn stepped(family: Family, cell: Address, stepping: Single<u8>) -> Pointing
     requires { cell.0 < (sizes family).cells }
     ensures { points result ≡ stepped_on (sizes family) cell.0 (stands stepping) }
 {
     match stepping {
         Single::Known(step) => match step {
-            INCREMENT => known_pointing(behind(family, cell)),
-            _ => Pointing::At(cell),
+            INCREMENT => Pointing::Known(behind(family, cell)),
+            _ => Pointing::Known(Pointer::At(cell)),
         },
         Single::Unknown => Pointing::Unknown,
     }

@@ -1,34 +1,18 @@
--- The five strobes of PT6312 and PT6315: written one behind the other they are the painting, and how long they are.
-use Rattle.std.specs.Prelude.{ℕ, ◌+◌, ◌*◌, ◌≡◌, refl, List, [], ◌∷◌, ◌++◌, length}
-use Rattle.std.proofs.Common.{arith, sym, ap, ◌∙◌, length-append}
-use Rattle.std.proofs.lemmas.List.Edits.{sets}
+-- The five strobes of PT6312 and PT6315: over as many cells as the part has they are the painting, and how long they are.
+use Rattle.std.specs.Prelude.{ℕ, ◌+◌, ◌*◌, ◌≡◌, refl, List, [], ◌∷◌, ◌++◌, length, take}
+use Rattle.std.proofs.Common.{arith, ap, subst, length-append}
 use Rattle.terms.specs.declared.Event.{Event}
 use Rattle.terms.specs.Event.{recording, recording_append, strobe}
 use Rattle.segment.specs.declared.Family.{Family}
 use Rattle.segment.specs.declared.Family.TheVariants.{Pt6312, Pt6315}
+use Rattle.segment.specs.declared.Sizes.{Sizes}
 use Rattle.segment.specs.Family.{sizes}
-use Rattle.painting.specs.Segment.{five_strobes}
-use Rattle.painting.specs.Answer.{segment_size}
-use Rattle.strobes.specs.Stream.{strobe_length, strobe_then}
-
-pub five_written : (o₀ o₁ o₂ o₃ o₄ o₅ : List ℕ) (a₁ a₂ a₃ a₄ m lamps k : ℕ) (cells : List ℕ)
-    → a₁ ≡ 0 + 4 → o₁ ≡ sets o₀ 0 (recording (strobe (m ∷ [])))
-    → a₂ ≡ a₁ + 4 → o₂ ≡ sets o₁ a₁ (recording (strobe (0x40 ∷ [])))
-    → a₃ ≡ a₂ + (2 * length cells + 4) → o₃ ≡ sets o₂ a₂ (recording (strobe (0xC0 ∷ cells)))
-    → a₄ ≡ a₃ + 6 → o₄ ≡ sets o₃ a₃ (recording (strobe (0x41 ∷ lamps ∷ [])))
-    → o₅ ≡ sets o₄ a₄ (recording (strobe (k ∷ [])))
-    → o₅ ≡ sets o₀ 0 (recording (five_strobes m cells lamps k))
-five_written o₀ o₁ o₂ o₃ o₄ o₅ a₁ a₂ a₃ a₄ m lamps k cells p₁ e₁ p₂ e₂ p₃ e₃ p₄ e₄ e₅ =
-    let fifth : List ℕ = recording (strobe (k ∷ [])) in
-    let fourth : List ℕ = recording (strobe (0x41 ∷ lamps ∷ [])) ++ fifth in
-    let third : List ℕ = recording (strobe (0xC0 ∷ cells)) ++ fourth in
-    let second : List ℕ = recording (strobe (0x40 ∷ [])) ++ third in
-    strobe_then o₀ o₁ o₅ 0 a₁ m [] second p₁ e₁
-    (strobe_then o₁ o₂ o₅ a₁ a₂ 0x40 [] third p₂ e₂
-    (strobe_then o₂ o₃ o₅ a₂ a₃ 0xC0 cells fourth p₃ e₃
-    (strobe_then o₃ o₄ o₅ a₃ a₄ 0x41 (lamps ∷ []) fifth p₄ e₄ e₅)))
-    ∙ ap (λ (l : List ℕ). sets o₀ 0 (recording (strobe (m ∷ [])) ++ (recording (strobe (0x40 ∷ [])) ++ l)))
-    (sym (recording_append (strobe (0xC0 ∷ cells)) (strobe (0x41 ∷ lamps ∷ []) ++ strobe (k ∷ []))))
+use Rattle.writing.specs.declared.Writer.{Writer}
+use Rattle.writing.specs.Wrote.{Wrote}
+use Rattle.painting.specs.declared.SegmentPicture.{SegmentPicture}
+use Rattle.painting.specs.Segment.{five_strobes, control}
+use Rattle.painting.specs.Answer.{segment_size, segment_stream}
+use Rattle.strobes.specs.Stream.{strobe_length}
 
 pub five_length : (m lamps k : ℕ) (cells : List ℕ) → length (recording (five_strobes m cells lamps k)) ≡ 22 + 2 * length cells
 five_length m lamps k cells =
@@ -43,3 +27,10 @@ pub size_is : (q : Family) → segment_size q ≡ 22 + 2 * (sizes q).cells
 unfolding sizes
 size_is Pt6312 = refl
 size_is Pt6315 = refl
+
+-- The strobes over as many cells as the part has are its stream.
+pub five_written : {u v : Writer} (q : Family) (p : SegmentPicture) (z : Sizes) (k : ℕ) → z ≡ sizes q → k ≡ control p
+    → Wrote u (recording (five_strobes p.mode (take z.cells p.cells) p.led k)) v → Wrote u (segment_stream q p) v
+five_written {u} {v} q p z k e f h =
+    subst (λ (m : ℕ). Wrote u (recording (five_strobes p.mode (take (sizes q).cells p.cells) p.led m)) v) f
+    (subst (λ (s : Sizes). Wrote u (recording (five_strobes p.mode (take s.cells p.cells) p.led k)) v) e h)

@@ -2,7 +2,7 @@
 #![tactic(auto)]
 
 ghost use Rattle.std.specs.Prelude.{◌≡◌, ◌+◌, ◌*◌, ◌≤◌, ◌<◌, length, take};
-ghost use Rattle.std.proofs.lemmas.List.Edits.{sets};
+ghost use Rattle.writing.specs.Wrote.{Wrote};
 ghost use Rattle.segment.specs.Value.{shows};
 ghost use Rattle.terms.specs.Event.{recording};
 ghost use Rattle.painting.specs.Segment.{five_strobes};
@@ -11,6 +11,7 @@ ghost use Rattle.painting.specs.Answer.{segment_size, segment_stream, in_front};
 use painting::SegmentPicture;
 use segment::{Display, Family};
 use strobes::{write_single, write_strobe};
+use writing::Writer;
 
 // Writes the painting to the front of `out`.
 pub fn write(family: Family, picture: SegmentPicture, out: &mut [u8])
@@ -18,10 +19,13 @@ pub fn write(family: Family, picture: SegmentPicture, out: &mut [u8])
     ensures { out.new ≡ in_front (segment_stream family picture) out.old }
 {
     let sizes = family.sizes();
+    let mode = picture.mode;
     let cells = picture.cells;
+    let led = picture.led;
     let display = picture.display;
     let control = control_of(picture.dimming, display);
-    write_five(out, picture.mode, cells, sizes.cells, picture.led, control);
+    let mut w = Writer { out, at: 0 };
+    write_five(&mut w, mode, cells, sizes.cells, led, control);
 }
 
 fn control_of(dimming: u8, display: Display) -> u8
@@ -35,15 +39,13 @@ fn control_of(dimming: u8, display: Display) -> u8
 }
 
 // The five strobes over the first `count` cells.
-fn write_five(out: &mut [u8], mode: u8, cells: [u8; 36], count: u8, led: u8, control: u8)
-    requires { (count ≤ 36) × (22 + 2 * count ≤ length out.old) }
-    ensures { (out.new ≡ sets out.old 0 (recording (five_strobes mode (take count cells) led control))) × (length cells ≡ 36) }
+fn write_five(w: &mut Writer, mode: u8, cells: [u8; 36], count: u8, led: u8, control: u8)
+    requires { count ≤ 36 }
+    ensures { (Wrote w.old (recording (five_strobes mode (take count cells) led control)) w.new) × (length cells ≡ 36) }
 {
-    let n = count as usize;
-    let lamps = [led];
-    let first = write_single(out, 0, mode);
-    let second = write_single(out, first, 0x40);
-    let third = write_strobe(out, second, 0xC0, &cells[..n]);
-    let fourth = write_strobe(out, third, 0x41, &lamps);
-    write_single(out, fourth, control);
+    write_single(w, mode);
+    write_single(w, 0x40);
+    write_strobe(w, 0xC0, &cells[..count as usize]);
+    write_strobe(w, 0x41, &[led]);
+    write_single(w, control);
 }

@@ -1,5 +1,4 @@
 // Number 2: whether every known value is in its fact's range, and every bit that is not known is stored as 0. What the part lacks is never tested.
-ghost use Rattle.std.specs.Prelude.{suc};
 ghost use Rattle.knowing.specs.Standing.{Within, Sound, unknown};
 ghost use Rattle.segment.specs.Fact.{range};
 ghost use Rattle.segment.specs.Family.{sizes};
@@ -56,29 +55,19 @@ fn singles_sound(family: Family, c: Control) -> bool
     own & set & lamps_sound(FOUR, led) & read
 }
 
-// The single facts whose ranges are the part's own. PT6315 has no switches, and any byte stands there in range.
+// The single facts whose ranges are the part's own. An address is one of the cells or invalid. PT6315 has no switches, and any byte stands there in range.
 fn own_sound(
     family: Family,
     address: Pointing,
-    data: Single,
-    mode: Single,
-    switches: Single,
+    data: Single<u8>,
+    mode: Single<u8>,
+    switches: Single<u8>,
 ) -> bool
     ensures { Tests result (OwnSound (sizes family) (points address) (stands «data») (stands mode) (stands switches)) }
 {
     let low = within(switches, 16);
     match family {
-        Family::Pt6312 => pointing_sound(address, 22) & within(data, 4) & within(mode, 8) & low,
-        Family::Pt6315 => pointing_sound(address, 36) & within(data, 3) & within(mode, 9),
-    }
-}
-
-fn pointing_sound(to: Pointing, cells: u8) -> bool
-    ensures { Tests result (Within (suc cells) (points to)) }
-{
-    match to {
-        Pointing::At(cell) => cell.0 < cells,
-        Pointing::Invalid => true,
-        Pointing::Unknown => true,
+        Family::Pt6312 => within(address, 23) & within(data, 4) & within(mode, 8) & low,
+        Family::Pt6315 => within(address, 37) & within(data, 3) & within(mode, 9),
     }
 }

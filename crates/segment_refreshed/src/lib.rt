@@ -10,7 +10,7 @@ ghost use Rattle.segment_refreshed.specs.Sent.{SentSome, Spelt};
 
 use fact::Single;
 use lamps::{EIGHT, put_byte};
-use segment::Family;
+use segment::{Family, Pointer};
 use segment_knowledge::{Control, IDLE, INCREMENT, Knowledge, Pointing, WRITE_DISPLAY};
 use terms::Address;
 use updating::reads_behind;
@@ -35,7 +35,7 @@ pub fn refreshed(
     Knowledge {
         cells,
         control: Control {
-            address: Pointing::At(behind),
+            address: Pointing::Known(Pointer::At(behind)),
             data: Single::Known(WRITE_DISPLAY),
             stepping: Single::Known(INCREMENT),
             count,
@@ -46,13 +46,12 @@ pub fn refreshed(
 }
 
 // The first n cells are known to hold their wanted bytes: those that were sent, and those that held them before.
+// `runs::Ring` does not fit here: it lends both rows to be read alone, and `spell` writes the codes.
 fn spell(cells: &mut [u16], wanted: &[u8], n: usize)
     requires { (n ≤ length cells.old) × (n ≤ length wanted.now) }
     ensures { Spelt wanted.now n cells.old cells.new }
 {
-    let mut i = 0;
-    while i < n {
+    for i in 0..n {
         cells[i] = put_byte(EIGHT, cells[i], wanted[i]);
-        i += 1;
     }
 }

@@ -1,8 +1,9 @@
 -- The looks of the report. An unknown read count may be 0 and 4: what is sent at 0 is a byte or unknown, and at 4 nothing is driven.
 use Rattle.std.specs.Prelude.{ℕ, zero, suc, ◌%◌, ◌<◌, ◌≤◌, ◌≡◌, refl, Bool, true, false, List, length, get_or, eqb}
 use Rattle.std.proofs.Common.{arith, sym, ap, ◌∙◌, subst, lt-ltb, le-ltb}
+use Rattle.std.proofs.lemmas.List.{get_or_default}
 use Rattle.key_codes.specs.View.{coded}
-use Rattle.key_codes.specs.Codes.{coded_byte, default_free}
+use Rattle.key_codes.specs.Codes.{coded_byte}
 use Rattle.rules.specs.Choice.{whether, of4}
 use Rattle.rules.specs.Rule.{Rule, look, value}
 use Rattle.knowing.specs.Standing.{Standing, known, unknown, Within, Sound}
@@ -16,8 +17,10 @@ use Rattle.segment.specs.declared.Family.TheVariants.{Pt6312, Pt6315}
 use Rattle.segment.specs.Family.{sizes}
 use Rattle.segment.specs.Fact.{Fact, same?, lacking, range, data_mode, key, switches, read_count}
 use Rattle.segment.specs.Sent.{not_driven, says, key_sent, switches_sent}
-use Rattle.sendings.specs.declared.Sending.{Sending}
-use Rattle.sendings.specs.declared.Sending.TheVariants.{NotDriven}
+use Rattle.fact.specs.declared.Single.{Single}
+use Rattle.segment.specs.declared.Sent.{Sent}
+use Rattle.fact.specs.declared.Single.TheVariants.{Known}
+use Rattle.segment.specs.declared.Sent.TheVariants.{NotDriven}
 use Rattle.sendings.specs.Report.{reports}
 
 -- Two ways that cannot agree.
@@ -97,10 +100,10 @@ other_mode q a b (suc (suc (suc (suc n)))) h p r = absurd (few q h)
     few Pt6315 l = omega arith
 
 -- Not driven joined with not driven, and once more with what it was joined with.
-pub undriven : Joins reports NotDriven NotDriven NotDriven
+pub undriven : Joins reports (Known NotDriven) (Known NotDriven) (Known NotDriven)
 undriven _ = sym (join_both (known not_driven) (known not_driven) not_driven refl refl)
 
-pub again : (b r : Sending) → Joins reports NotDriven b r → Joins reports r NotDriven r
+pub again : (b r : Single Sent) → Joins reports (Known NotDriven) b r → Joins reports r (Known NotDriven) r
 again b r e x =
     e x ∙ join_swap (known not_driven) (reports b x) ∙ sym (join_again (reports b x) (known not_driven))
     ∙ ap (λ (t : Standing). join t (known not_driven)) (join_swap (reports b x) (known not_driven) ∙ sym (e x))
@@ -110,7 +113,7 @@ module _ (l : List ℕ) (n : ℕ) (h : n < length l) where
   pub read_code : get_or l n 0 < 256 → known (get_or l n 0 % 256) ≡ coded (get_or l n 256)
   read_code p =
       let e : get_or l n 0 % 256 ≡ get_or l n 0 = omega arith in
-      ap known e ∙ sym (coded_byte (get_or l n 0) p) ∙ ap coded (default_free l n 0 256 h)
+      ap known e ∙ sym (coded_byte (get_or l n 0) p) ∙ ap coded (get_or_default l n 0 256 h)
 
   pub no_code : 256 ≤ get_or l n 0 → Within 256 (coded (get_or l n 256)) → unknown ≡ coded (get_or l n 256)
   no_code p w = go (eqb (get_or l n 256) 256) refl w
@@ -118,5 +121,5 @@ module _ (l : List ℕ) (n : ℕ) (h : n < length l) where
       go : (t : Bool) → eqb (get_or l n 256) 256 ≡ t → Within 256 (whether t unknown (known (get_or l n 256))) → unknown ≡ coded (get_or l n 256)
       go true e v = rw e refl
       go false e v =
-          let z = default_free l n 0 256 h in
+          let z = get_or_default l n 0 256 h in
           absurd (omega arith)

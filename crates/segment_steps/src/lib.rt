@@ -1,7 +1,5 @@
-// A step: what an event makes of a knowledge of PT6312 and PT6315, told in two, the facts beside the memory and what happens to the memory; and what two addresses have in common.
+// A step: what an event makes of a knowledge of PT6312 and PT6315, told in two, the facts beside the memory and what happens to the memory.
 #![tactic(auto)]
-
-mod join;
 
 ghost use Rattle.std.specs.Prelude.{◌≡◌};
 ghost use Rattle.rules.specs.Rule.{gives, free};
@@ -9,7 +7,6 @@ ghost use Rattle.segment.specs.Family.{sizes};
 ghost use Rattle.segment_steps.specs.Step.{kept_of, forgotten_of, Steps};
 
 use changes::Change;
-pub use join::both_pointing;
 use segment::Family;
 use segment_knowledge::{Control, no_control};
 

@@ -1,12 +1,13 @@
 -- What `send` answers, for a ring of n cells, and why the sum of its pieces is the whole. The argument: the 40H strobe, if it is sent, stands at the front,
 -- and the runs behind it; their lengths are told by what was counted.
-use Rattle.std.specs.Prelude.{ℕ, zero, suc, ◌+◌, ◌*◌, ◌<◌, ◌≤◌, ◌≡◌, refl, Bool, true, false, not, ◌&&◌, List, [], ◌∷◌, ◌++◌, length, drop, eqb}
-use Rattle.std.proofs.Common.{arith, sym, ap, ◌∙◌, length-append}
-use Rattle.std.proofs.lemmas.List.Edits.{sets, sets-eq}
+use Rattle.std.specs.Prelude.{ℕ, zero, suc, ◌+◌, ◌*◌, ◌<◌, ◌≤◌, ◌≡◌, refl, Bool, true, false, not, ◌&&◌, List, [], ◌∷◌, length, eqb, Option, Some, None}
+use Rattle.std.proofs.Common.{arith, ap, ◌∙◌, subst, length-append}
 use mir.Val.{bool_byte}
 use Rattle.rules.specs.Choice.{whether}
+use Rattle.writing.specs.declared.Writer.{Writer}
+use Rattle.writing.specs.Wrote.{Wrote}
+use Rattle.strobes.specs.Stream.{wrote_events}
 use Rattle.rules.specs.Where.{Where}
-use Rattle.writing.specs.Sets.{sets_append}
 use Rattle.terms.specs.declared.Address.{Address}
 use Rattle.terms.specs.Event.{recording, recording_append, strobe}
 use Rattle.survey.specs.declared.Survey.{Survey}
@@ -14,11 +15,8 @@ use Rattle.runs.specs.Runs.{wanted, differing, starts, starts_of, last_end, run_
 use Rattle.runs.specs.Linear.{those_most}
 use Rattle.runs.specs.Survey.{Surveyed}
 use Rattle.runs.specs.Count.{run_length}
-use Rattle.updating.specs.declared.Updated.{Updated}
 use Rattle.updating.specs.Update.{needs40, setting_events, sent_events, sent_bytes}
-use Rattle.updating.specs.Answer.{RefusedBy, Sent}
-use Rattle.segment_updater.specs.declared.Behind.{Behind}
-use Rattle.segment_updater.specs.declared.Behind.TheVariants.{Cell, NothingSent}
+use Rattle.updating.specs.Answer.{Updated, RefusedBy, Sent}
 
 -- Number 10 exactly where the output is shorter than the stream.
 abbrev pub Sends : ℕ → (ℕ → Bool) → Bool → List ℕ → List ℕ → Updated → List ℕ → Type 0
@@ -28,25 +26,25 @@ Sends n d set w out r after =
     (RefusedBy 10 out r after)
 
 -- The cell behind the last run, of an update that is answered by the number; where that is refused, or nothing differs, nothing was sent.
-abbrev pub behind_of : ℕ → (ℕ → Bool) → ℕ → Behind
-behind_of n d zero = whether (eqb (length (differing n d)) 0) NothingSent (Cell (record { 0 = last_end n d 0 (starts_of n d) }))
-behind_of n d (suc m) = NothingSent
+abbrev pub behind_of : ℕ → (ℕ → Bool) → ℕ → Option Address
+behind_of n d zero = whether (eqb (length (differing n d)) 0) None (Some (record { 0 = last_end n d 0 (starts_of n d) }))
+behind_of n d (suc m) = None
 
 -- A cell is named only where the update was sent and something differs, and it is the one behind the last run; where it was sent and none is named, nothing differs.
 module _ (n : ℕ) (d : ℕ → Bool) where
-  pub sent_some : (m : ℕ) (cell : Address) → behind_of n d m ≡ Cell cell → (m ≡ 0) × (eqb (length (differing n d)) 0 ≡ false) × (cell.0 ≡ last_end n d 0 (starts_of n d))
+  pub sent_some : (m : ℕ) (cell : Address) → behind_of n d m ≡ Some cell → (m ≡ 0) × (eqb (length (differing n d)) 0 ≡ false) × (cell.0 ≡ last_end n d 0 (starts_of n d))
   sent_some zero cell e = let (some, end) = go (eqb (length (differing n d)) 0) refl e in (refl, some, end)
     where
-      go : (b : Bool) → eqb (length (differing n d)) 0 ≡ b → whether b NothingSent (Cell (record { 0 = last_end n d 0 (starts_of n d) })) ≡ Cell cell
+      go : (b : Bool) → eqb (length (differing n d)) 0 ≡ b → whether b None (Some (record { 0 = last_end n d 0 (starts_of n d) })) ≡ Some cell
           → (eqb (length (differing n d)) 0 ≡ false) × (cell.0 ≡ last_end n d 0 (starts_of n d))
       go true z e = let x : ◌≡◌ {A = ℕ} 0 1 = cc in absurd (omega arith)
       go false z e = let x : cell.0 ≡ last_end n d 0 (starts_of n d) = cc in (z, x)
   sent_some (suc m) cell e = let x : ◌≡◌ {A = ℕ} 0 1 = cc in absurd (omega arith)
 
-  pub sent_none : behind_of n d 0 ≡ NothingSent → eqb (length (differing n d)) 0 ≡ true
+  pub sent_none : behind_of n d 0 ≡ None → eqb (length (differing n d)) 0 ≡ true
   sent_none e = go (eqb (length (differing n d)) 0) e
     where
-      go : (b : Bool) → whether b NothingSent (Cell (record { 0 = last_end n d 0 (starts_of n d) })) ≡ NothingSent → b ≡ true
+      go : (b : Bool) → whether {A = Option Address} b None (Some (record { 0 = last_end n d 0 (starts_of n d) })) ≡ None → b ≡ true
       go true e = refl
       go false e = let x : ◌≡◌ {A = ℕ} 0 1 = cc in absurd (omega arith)
 
@@ -98,28 +96,11 @@ module _ (n : ℕ) (d : ℕ → Bool) (set : Bool) (w : List ℕ) (some : 0 < n)
     pub told_count : cells + runs + first ≡ sent_bytes n d set
     told_count = omega (arith, t.cells_are, t.runs_are, t.first_is)
 
-    pub told_behind : (end : Address) (b : Behind) → end.0 ≡ last_end n d 0 (starts_of n d) → b ≡ whether (eqb cells 0) NothingSent (Cell end) → b ≡ behind_of n d 0
-    told_behind end b e f = f ∙ (λ i. whether (eqb (t.cells_are i) 0) NothingSent (Cell (record { 0 = e i })))
+    pub told_behind : (end : Address) (b : Option Address) → end.0 ≡ last_end n d 0 (starts_of n d) → b ≡ whether (eqb cells 0) None (Some end) → b ≡ behind_of n d 0
+    told_behind end b e f = f ∙ (λ i. whether (eqb (t.cells_are i) 0) None (Some (record { 0 = e i })))
 
-    -- There is room for the setting, and behind it for the runs.
-    pub room_for : (out : List ℕ) → 2 * cells + 4 * (runs + first) ≤ length out
-        → (4 * whether setting 1 0 ≤ length out) × (4 * whether setting 1 0 + length (recording (run_events n d (wanted w))) ≤ length out)
-    room_for out h =
-        let c = run_length n d (wanted w) some in
-        let f : first ≡ whether setting 1 0 = t.first_is ∙ ap (λ (b : Bool). whether b 1 0) (sym t.setting_is) in
-        (omega (arith, t.cells_are, t.runs_are), omega (arith, t.cells_are, t.runs_are))
-
-  -- The setting at the front and the runs behind it are the stream at the front.
-  pub sent_written : (out o₁ o₂ : List ℕ) (from : ℕ) → length (recording (sent_events n d set (wanted w))) ≤ length out → from ≡ 4 * whether (needs40 n d set) 1 0
-      → o₁ ≡ sets out 0 (recording (setting_events n d set)) → o₂ ≡ sets o₁ from (recording (run_events n d (wanted w)))
-      → o₂ ≡ recording (sent_events n d set (wanted w)) ++ drop (length (recording (sent_events n d set (wanted w)))) out
-  sent_written out o₁ o₂ from h p e₁ e₂ =
-      let first : List ℕ = recording (setting_events n d set) in
-      let rest : List ℕ = recording (run_events n d (wanted w)) in
-      let z : from ≡ 0 + length first = omega (arith, setting_length) in
-      let whole : recording (sent_events n d set (wanted w)) ≡ first ++ rest = recording_append (setting_events n d set) (run_events n d (wanted w)) in
-      let y : 0 + length (first ++ rest) ≡ length (first ++ rest) = omega arith in
-      let fits : 0 + length (first ++ rest) ≤ length out = omega (arith, ap length whole) in
-      e₂ ∙ ap (λ (o : List ℕ). sets o from rest) e₁ ∙ ap (λ (k : ℕ). sets (sets out 0 first) k rest) z ∙ sym (sets_append first rest out 0)
-      ∙ sets-eq (first ++ rest) out 0 fits ∙ ap (λ (k : ℕ). first ++ rest ++ drop k out) y
-      ∙ sym (ap (λ (l : List ℕ). l ++ drop (length l) out) whole)
+  -- The setting, if it is needed, and the runs behind it are the stream.
+  pub sent_written : {u v x : Writer} (setting : Bool) → setting ≡ needs40 n d set → Wrote u (recording (whether setting (strobe (0x40 ∷ [])) [])) v
+      → Wrote v (recording (run_events n d (wanted w))) x → Wrote u (recording (sent_events n d set (wanted w))) x
+  sent_written {u} {v} setting e p q =
+      wrote_events (setting_events n d set) (run_events n d (wanted w)) (subst (λ (b : Bool). Wrote u (recording (whether b (strobe (0x40 ∷ [])) [])) v) e p) q

@@ -2,43 +2,35 @@
 // cells that differ, and where it ended.
 #![tactic(auto)]
 
-ghost use Rattle.std.specs.Prelude.{◌≡◌, ◌+◌, ◌*◌, ◌≤◌, ◌<◌, length, eqb, [], ◌∷◌};
-ghost use Rattle.std.proofs.lemmas.List.Edits.{sets};
+ghost use Rattle.std.specs.Prelude.{◌≡◌, eqb, Some, None, [], ◌∷◌};
 ghost use Rattle.rules.specs.Choice.{whether};
+ghost use Rattle.writing.specs.Wrote.{Wrote};
 ghost use Rattle.terms.specs.Event.{recording, strobe};
 ghost use Rattle.runs.specs.Survey.{differ};
 ghost use Rattle.updating.specs.Answer.{number};
-ghost use Rattle.segment_updater.specs.declared.Behind.TheVariants.{Cell, NothingSent};
 ghost use Rattle.segment_updater.specs.Sends.{Sends, behind_of};
 
-use runs::{look_over, write_runs};
+use runs::Ring;
 use strobes::write_single;
 use terms::{Address, Place};
-use updating::Updated;
-
-// The cell behind the last run that was sent, which is where the address stands then.
-#[derive(Clone, Copy)]
-pub enum Behind {
-    Cell(Address),
-    // Refused, or nothing to change.
-    NothingSent,
-}
+use updating::{NotUpdated, StreamSize, Updated};
+use writing::Writer;
 
 // What an update came to, and where it ended.
 #[derive(Clone, Copy)]
 pub struct Sending {
     pub answer: Updated,
-    pub behind: Behind,
+    // The cell behind the last run that was sent, which is where the address stands then; none where the update was refused, or had nothing to change.
+    pub behind: Option<Address>,
 }
 
-// Of the first n cells. 40H goes first where the setting is not known, unless nothing differs. A byte that goes over the wire is a record of two bytes, and each
+// 40H goes first where the setting is not known, unless nothing differs. A byte that goes over the wire is a record of two bytes, and each
 // strobe has two more, its fall and its rise.
-pub fn send(n: usize, codes: &[u16], set: bool, wanted: &[u8], out: &mut [u8]) -> Sending
-    requires { (0 < n) × (n ≤ 64) × (n ≤ length codes.now) × (n ≤ length wanted.now) }
-    ensures { Sends n (differ codes.now wanted.now) set wanted.now out.old result.answer out.new
-        × (result.behind ≡ behind_of n (differ codes.now wanted.now) (number result.answer)) }
+pub fn send(ring: Ring, set: bool, out: &mut [u8]) -> Sending
+    ensures { Sends ring.entry.n (differ ring.entry.codes.now ring.entry.wanted.now) set ring.entry.wanted.now out.old result.answer out.new
+        × (result.behind ≡ behind_of ring.entry.n (differ ring.entry.codes.now ring.entry.wanted.now) (number result.answer)) }
 {
-    let found = look_over(codes, wanted, n);
+    let found = ring.look_over();
     let cells = found.cells;
     let runs = found.runs;
     let setting = !set & (cells != 0);
@@ -46,37 +38,34 @@ pub fn send(n: usize, codes: &[u16], set: bool, wanted: &[u8], out: &mut [u8]) -
     let size = 2 * cells + 4 * (runs + first);
     if out.len() < size {
         return Sending {
-            answer: Updated::TooSmall(Place(0)),
-            behind: Behind::NothingSent,
+            answer: Err(NotUpdated::TooSmall(Place(0))),
+            behind: None,
         };
     }
-    let from = write_setting(out, setting);
-    let end = write_runs(out, from, codes, wanted, n, found.front);
+    let mut w = Writer { out, at: 0 };
+    write_setting(&mut w, setting);
+    let end = ring.write_runs(&mut w, found.front);
     Sending {
-        answer: Updated::Done(Place(size), cells + runs + first),
+        answer: Ok(StreamSize {
+            length: Place(size),
+            wire: cells + runs + first,
+        }),
         behind: behind_last(cells, end),
     }
 }
 
 // Where no cell differs there is no run.
-fn behind_last(cells: usize, end: Address) -> Behind
-    ensures { result ≡ whether (eqb cells 0) NothingSent (Cell end) }
+fn behind_last(cells: usize, end: Address) -> Option<Address>
+    ensures { result ≡ whether (eqb cells 0) None (Some end) }
 {
-    if cells == 0 {
-        Behind::NothingSent
-    } else {
-        Behind::Cell(end)
-    }
+    if cells == 0 { None } else { Some(end) }
 }
 
-// The 40H strobe at the front, if it is needed; the place behind it.
-fn write_setting(out: &mut [u8], setting: bool) -> usize
-    requires { 4 * whether setting 1 0 ≤ length out.old }
-    ensures { (result ≡ 4 * whether setting 1 0) × (out.new ≡ sets out.old 0 (recording (whether setting (strobe (0x40 ∷ [])) []))) }
+// The 40H strobe, if it is needed.
+fn write_setting(w: &mut Writer, setting: bool)
+    ensures { Wrote w.old (recording (whether setting (strobe (0x40 ∷ [])) [])) w.new }
 {
     if setting {
-        write_single(out, 0, 0x40)
-    } else {
-        0
+        write_single(w, 0x40);
     }
 }

@@ -1,14 +1,13 @@
 -- A report as what is known of the byte to be sent next, not driven being one more value than a byte has.
-use Rattle.knowing.specs.Standing.{Standing, known, unknown}
-use Rattle.segment.specs.Sent.{not_driven}
-use Rattle.sendings.specs.declared.Sending.{Sending}
-use Rattle.sendings.specs.declared.Sending.TheVariants.{Byte, NotDriven, Unknown}
+use Rattle.knowing.specs.Standing.{Standing}
+use Rattle.segment.specs.declared.Sent.{Sent}
+use Rattle.segment.specs.Sent.{sent_number}
+use Rattle.fact.specs.declared.Single.{Single}
+use Rattle.fact.specs.View.{standing}
 
-abbrev pub sending : Sending → Standing
-sending (Byte b) = known b
-sending NotDriven = known not_driven
-sending Unknown = unknown
+abbrev pub sending : Single Sent → Standing
+sending = standing sent_number
 
 -- There is one thing to report.
-abbrev pub reports : Sending → Unit {0} → Standing
+abbrev pub reports : Single Sent → Unit {0} → Standing
 reports r _ = sending r

@@ -3,5 +3,5 @@
 
 mod lent;
 
-pub use feed::{Answer, Feed, Kept, Unfinished, opened};
+pub use feed::{Account, Answer, Feed, Refused, Unfinished, opened};
 pub use lent::{close, take};

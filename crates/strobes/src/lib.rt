@@ -1,60 +1,42 @@
-// Writing the strobes of a recording to lent memory.
+// Writing the strobes of a recording to lent memory, as far as there is room.
 #![tactic(auto)]
 
-ghost use Rattle.std.specs.Prelude.{◌≡◌, [], ◌∷◌, map, ◌+◌, ◌*◌, ◌≤◌, ◌<◌, length, set};
-ghost use Rattle.std.proofs.lemmas.List.Edits.{sets};
+ghost use Rattle.std.specs.Prelude.{[], ◌∷◌, map};
+ghost use Rattle.writing.specs.Wrote.{Wrote};
 ghost use Rattle.terms.specs.declared.Event.TheVariants.{ByteIn};
 ghost use Rattle.terms.specs.Event.{recording, strobe};
 
-// One byte at its place; the next place.
-pub fn put(out: &mut [u8], at: usize, byte: u8) -> usize
-    requires { at < length out.old }
-    ensures { (result ≡ at + 1) × (out.new ≡ set out.old at byte) }
-{
-    out[at] = byte;
-    at + 1
-}
+use writing::Writer;
 
 // One whole byte clocked in.
-pub fn byte_in(out: &mut [u8], at: usize, byte: u8) -> usize
-    requires { at + 2 ≤ length out.old }
-    ensures { (result ≡ at + 2) × (out.new ≡ sets out.old at (3 ∷ byte ∷ [])) }
+pub fn byte_in(w: &mut Writer, byte: u8)
+    ensures { Wrote w.old (3 ∷ byte ∷ []) w.new }
 {
-    let next = put(out, at, 3);
-    put(out, next, byte)
+    w.put(3);
+    w.put(byte);
 }
 
-fn bytes_in(out: &mut [u8], at: usize, bytes: &[u8]) -> usize
-    requires { at + 2 * length bytes.now ≤ length out.old }
-    ensures { (result ≡ at + 2 * length bytes.now)
-        × (out.new ≡ sets out.old at (recording (map ByteIn bytes.now))) }
+fn bytes_in(w: &mut Writer, bytes: &[u8])
+    ensures { Wrote w.old (recording (map ByteIn bytes.now)) w.new }
 {
-    let mut to = at;
-    let mut i = 0;
-    while i < bytes.len() {
-        to = byte_in(out, to, bytes[i]);
-        i += 1;
+    for byte in bytes {
+        byte_in(w, *byte);
     }
-    to
 }
 
 // A strobe with a first byte and those behind it.
-pub fn write_strobe(out: &mut [u8], at: usize, first: u8, rest: &[u8]) -> usize
-    requires { at + (2 * length rest.now + 4) ≤ length out.old }
-    ensures { (result ≡ at + (2 * length rest.now + 4))
-        × (out.new ≡ sets out.old at (recording (strobe (first ∷ rest.now)))) }
+pub fn write_strobe(w: &mut Writer, first: u8, rest: &[u8])
+    ensures { Wrote w.old (recording (strobe (first ∷ rest.now))) w.new }
 {
-    let fallen = put(out, at, 2);
-    let begun = byte_in(out, fallen, first);
-    let done = bytes_in(out, begun, rest);
-    put(out, done, 4)
+    w.put(2);
+    byte_in(w, first);
+    bytes_in(w, rest);
+    w.put(4);
 }
 
 // A strobe with one byte.
-pub fn write_single(out: &mut [u8], at: usize, byte: u8) -> usize
-    requires { at + 4 ≤ length out.old }
-    ensures { (result ≡ at + 4) × (out.new ≡ sets out.old at (recording (strobe (byte ∷ [])))) }
+pub fn write_single(w: &mut Writer, byte: u8)
+    ensures { Wrote w.old (recording (strobe (byte ∷ []))) w.new }
 {
-    let none = [byte];
-    write_strobe(out, at, byte, &none[..0])
+    write_strobe(w, byte, &[]);
 }

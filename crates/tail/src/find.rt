@@ -4,20 +4,15 @@ ghost use Rattle.terms.specs.Part.{part_of};
 ghost use Rattle.tail.specs.Tail.{found, found_part};
 
 use crate::gaps::{Found, walk_gaps};
-use answers::Answer;
-use terms::{Part, PartRead, Place, part_of};
+use answers::Refused;
+use terms::{Part, Place};
 
 pub fn find_tail(part: u8, recording: &[u8]) -> Found
     ensures { result ≡ found (part_of part) recording.now }
 {
-    let read = part_of(part);
-    match read {
-        PartRead::Is(is) => find_in(is, recording),
-        PartRead::Refused(at) => Found {
-            answer: Answer::NoPart(at),
-            start: Place(0),
-            end: Place(0),
-        },
+    match Part::try_from(part) {
+        Ok(part) => find_in(part, recording),
+        Err(no_part) => Found::refused(no_part.into()),
     }
 }
 
@@ -25,11 +20,7 @@ fn find_in(part: Part, recording: &[u8]) -> Found
     ensures { result ≡ found_part part recording.now }
 {
     if 65535 < recording.len() {
-        return Found {
-            answer: Answer::TooLong(Place(0)),
-            start: Place(0),
-            end: Place(0),
-        };
+        return Found::refused(Refused::TooLong(Place(0)));
     }
     walk_gaps(part, recording)
 }

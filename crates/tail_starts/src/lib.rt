@@ -12,13 +12,6 @@ pub fn behind(event: Event, here: usize, before: usize) -> usize
 {
     match event {
         Event::Gap => here,
-        Event::Power => before,
-        Event::Falls => before,
-        Event::ByteIn(_) => before,
-        Event::Rises => before,
-        Event::Unfinished(_) => before,
-        Event::Keys(_, _, _, _) => before,
-        Event::Switches(_) => before,
-        Event::ByteOut => before,
+        _ => before,
     }
 }

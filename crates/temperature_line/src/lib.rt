@@ -9,13 +9,14 @@ use degrees::write_degrees;
 use refusals::refused;
 use terms::Place;
 use thermometer::Answer;
-use writing::{put, words};
+use writing::Writer;
 
 // Enough for every line.
 pub const ROOM: usize = 64;
 
 // Writes the line to the front of `out`, and gives its length. Where `out` has less than ROOM bytes nothing is written, and the length is 0, since a number
 // that is cut would pass for another. A reading must be some half degrees, as every reading is that `temperature` gives.
+// What may not change: of a reading `Line.Printable` is `Half.Halved`, which no type keeps (`halves_of` says why), and `Line.a_line` takes the line from it; `Answer::Reading(f32)`, which a caller can make of any float, is the form that was asked for.
 pub fn write_line(answer: Answer, out: &mut [u8]) -> usize
     requires { Printable answer }
     ensures { PrintsLine answer out.old result out.new }
@@ -30,28 +31,31 @@ pub fn write_line(answer: Answer, out: &mut [u8]) -> usize
 pub fn write_refusal(number: u8, place: Place, out: &mut [u8]) -> usize
     ensures { Prints room (refused_at number place.0) out.old result out.new }
 {
-    let room = out.len();
-    if room < ROOM {
+    if out.len() < ROOM {
         return 0;
     }
-    refused(out, number, place)
+    let mut w = Writer { out, at: 0 };
+    refused(&mut w, number, place);
+    w.at
 }
 
 fn write_said(answer: Answer, out: &mut [u8]) -> usize
     requires { Printable answer }
     ensures { WritesLine answer out.old result out.new }
 {
+    let mut w = Writer { out, at: 0 };
     match answer {
         Answer::Reading(degrees) => {
-            let told = write_degrees(degrees, out);
-            put(out, told, b'\n')
+            w.at = write_degrees(degrees, w.out);
+            w.put(b'\n');
         }
-        Answer::NoReading => words(out, 0, b"no reading\n"),
-        Answer::Dark => words(out, 0, b"dark\n"),
-        Answer::Unknown => words(out, 0, b"unknown\n"),
-        Answer::NotAReading => words(out, 0, b"not a reading\n"),
-        Answer::NoPart(at) => refused(out, 1, at),
-        Answer::OutOfRange(at) => refused(out, 2, at),
-        Answer::NoField(at) => refused(out, 11, at),
+        Answer::NoReading => w.words(b"no reading\n"),
+        Answer::Dark => w.words(b"dark\n"),
+        Answer::Unknown => w.words(b"unknown\n"),
+        Answer::NotAReading => w.words(b"not a reading\n"),
+        Answer::NoPart(at) => refused(&mut w, 1, at),
+        Answer::OutOfRange(at) => refused(&mut w, 2, at),
+        Answer::NoField(at) => refused(&mut w, 11, at),
     }
+    w.at
 }

@@ -2,19 +2,22 @@
 // part byte names.
 #![tactic(auto)]
 
-ghost use Rattle.std.specs.Prelude.{◌≡◌};
-ghost use Rattle.terms.specs.Part.{part_of, number, place, part_number};
+mod value;
+
+ghost use Rattle.terms.specs.Part.{Names};
+
+pub use value::Value;
 
 // A place in a recording, counted from its first byte. Refusals carry one.
-#[derive(Clone, Copy)]
+#[derive(Clone, Copy, Debug, PartialEq, Eq)]
 pub struct Place(pub usize);
 
 // An address in a chip: the number of a cell or of a character. Moves take one.
-#[derive(Clone, Copy)]
+#[derive(Clone, Copy, Debug, PartialEq, Eq)]
 pub struct Address(pub u8);
 
 // What a recorder notes.
-#[derive(Clone, Copy)]
+#[derive(Clone, Copy, Debug, PartialEq, Eq)]
 pub enum Event {
     // Power is applied.
     Power,
@@ -37,28 +40,29 @@ pub enum Event {
 }
 
 // The parts that are mirrored.
-#[derive(Clone, Copy)]
+#[derive(Clone, Copy, Debug, PartialEq, Eq)]
 pub enum Part {
     Pt6302,
     Pt6312,
     Pt6315,
 }
 
-// What a part byte names: a part, or number 1 at its place.
-#[derive(Clone, Copy)]
-pub enum PartRead {
-    Is(Part),
-    Refused(Place),
-}
+// Number 1, at its place: a byte that names no part.
+#[derive(Clone, Copy, Debug, PartialEq, Eq)]
+pub struct NoPart(pub Place);
 
 // The part that a part byte names.
-pub fn part_of(byte: u8) -> PartRead
-    ensures { (result ≡ part_of byte) × ((number result ≡ part_number byte) × (place result ≡ 0)) }
-{
-    match byte {
-        0x02 => PartRead::Is(Part::Pt6302),
-        0x12 => PartRead::Is(Part::Pt6312),
-        0x15 => PartRead::Is(Part::Pt6315),
-        _ => PartRead::Refused(Place(0)),
+impl TryFrom<u8> for Part {
+    type Error = NoPart;
+
+    ghost try_from_gives = { Names };
+
+    fn try_from(byte: u8) -> Result<Self, NoPart> {
+        match byte {
+            0x02 => Ok(Part::Pt6302),
+            0x12 => Ok(Part::Pt6312),
+            0x15 => Ok(Part::Pt6315),
+            _ => Err(NoPart(Place(0))),
+        }
     }
 }

@@ -6,63 +6,57 @@ ghost use Rattle.terms.specs.declared.Part.{Part};
 ghost use Rattle.recording.specs.Record.{front};
 
 use recording::{
-    Read, Refusal, bits_allowed, fourth_allowed, has_keys, has_switches, switches_allowed,
+    Record, Refusal, bits_allowed, fourth_allowed, has_keys, has_switches, switches_allowed,
 };
 use terms::{Event, Part};
 
 // A record of 06, on any part.
-pub fn unfinished(bytes: &[u8], i: usize) -> Read
+pub fn unfinished(bytes: &[u8], i: usize) -> Result<Record, Refusal>
     requires { (i < length bytes.now) × (get_or bytes.now i 0 ≡ 6) }
     ensures { (p : Part) → result ≡ front p (drop i bytes.now) }
 {
-    if bytes.len() - i < 2 {
-        return Read::Refused(Refusal::CutShort);
+    let bits = *bytes.get(i + 1).ok_or(Refusal::CutShort)?;
+    if !bits_allowed(bits) {
+        return Err(Refusal::Forbidden);
     }
-    let bits = bytes[i + 1];
-    if bits_allowed(bits) {
-        Read::Is(Event::Unfinished(bits), 2)
-    } else {
-        Read::Refused(Refusal::Forbidden)
-    }
+    Ok(Record {
+        event: Event::Unfinished(bits),
+        length: 2,
+    })
 }
 
 // A record of 07.
-pub fn keys(part: Part, bytes: &[u8], i: usize) -> Read
+pub fn keys(part: Part, bytes: &[u8], i: usize) -> Result<Record, Refusal>
     requires { (i < length bytes.now) × (get_or bytes.now i 0 ≡ 7) }
     ensures { result ≡ front part (drop i bytes.now) }
 {
     if !has_keys(part) {
-        return Read::Refused(Refusal::Foreign);
+        return Err(Refusal::Foreign);
     }
-    if bytes.len() - i < 5 {
-        return Read::Refused(Refusal::CutShort);
+    let fourth = *bytes.get(i + 4).ok_or(Refusal::CutShort)?;
+    if !fourth_allowed(part, fourth) {
+        return Err(Refusal::Forbidden);
     }
-    let fourth = bytes[i + 4];
-    if fourth_allowed(part, fourth) {
-        Read::Is(
-            Event::Keys(bytes[i + 1], bytes[i + 2], bytes[i + 3], fourth),
-            5,
-        )
-    } else {
-        Read::Refused(Refusal::Forbidden)
-    }
+    Ok(Record {
+        event: Event::Keys(bytes[i + 1], bytes[i + 2], bytes[i + 3], fourth),
+        length: 5,
+    })
 }
 
 // A record of 08.
-pub fn switches(part: Part, bytes: &[u8], i: usize) -> Read
+pub fn switches(part: Part, bytes: &[u8], i: usize) -> Result<Record, Refusal>
     requires { (i < length bytes.now) × (get_or bytes.now i 0 ≡ 8) }
     ensures { result ≡ front part (drop i bytes.now) }
 {
     if !has_switches(part) {
-        return Read::Refused(Refusal::Foreign);
+        return Err(Refusal::Foreign);
     }
-    if bytes.len() - i < 2 {
-        return Read::Refused(Refusal::CutShort);
+    let value = *bytes.get(i + 1).ok_or(Refusal::CutShort)?;
+    if !switches_allowed(value) {
+        return Err(Refusal::Forbidden);
     }
-    let value = bytes[i + 1];
-    if switches_allowed(value) {
-        Read::Is(Event::Switches(value), 2)
-    } else {
-        Read::Refused(Refusal::Forbidden)
-    }
+    Ok(Record {
+        event: Event::Switches(value),
+        length: 2,
+    })
 }

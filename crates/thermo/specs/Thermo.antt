@@ -2,8 +2,7 @@
 -- line.
 use Rattle.std.specs.Prelude.{ℕ, ◌≤◌, ◌≡◌, List, length}
 use Rattle.rules.specs.Where.{Where, good, bad}
-use Rattle.terms.specs.Part.{part_of}
-use Rattle.terms.specs.declared.PartRead.{PartRead}
+use Rattle.terms.specs.Part.{PartRead, part_of}
 use Rattle.panel.specs.declared.Panel.{Panel}
 use Rattle.answers.specs.Answer.{number, place}
 use Rattle.replay.specs.declared.replays.Replayed.{Replayed}

@@ -7,7 +7,7 @@ ghost use Rattle.mirror_input.specs.Input.{part_byte, behind, start_byte};
 ghost use Rattle.thermo.specs.Thermo.{Told, Shows};
 
 use answers::told_of;
-use input::{Input, Stream, failed, read_input};
+use input::{run_on, status_of};
 use mirror_input::{part_byte, recording_of, start_byte};
 use panel::Panel;
 use replay::from_nothing;
@@ -16,32 +16,17 @@ use temperature_line::{write_line, write_refusal};
 use terms::Address;
 use thermometer::temperature;
 
-fn main(rt: HostRuntime) -> ExitCode {
-    let mut stream = Stream::new(rt.stdin());
-    let mut input = room();
-    match read_input(&mut stream, &mut input) {
-        Input::Whole(n) => print(&rt, &input[..n]),
-        Input::Full => print(&rt, &input),
-        Input::Failed => {
-            let what = "thermo: the input could not be read to its end";
-            failed(&rt, what, stream.error)
-        }
-    }
-}
+// The part byte, the start, the longest recording that is allowed, and one byte more, which shows that a recording is too long.
+const ROOM: usize = 65538;
 
-// The part byte, the start, the longest recording that is allowed, and one byte more, which shows that a recording is too long. A function of its
-// own, since a proof that sees so long a row counts it.
-fn room() -> [u8; 65538] {
-    [0u8; 65538]
+fn main(rt: HostRuntime) -> ExitCode {
+    run_on::<ROOM, _, _>(&rt, "thermo", rt.stdin(), |input| print(&rt, input))
 }
 
 fn print(rt: &(impl Print + Eprint), input: &[u8]) -> ExitCode {
     let mut out = [0u8; temperature_line::ROOM];
     let length = read_off(input, &mut out);
-    match rt.write_all(&out[..length]) {
-        Ok(()) => ExitCode::SUCCESS,
-        Err(e) => failed(rt, "thermo: the line could not be written whole", Some(e)),
-    }
+    status_of(rt, "thermo", "line", rt.write_all(&out[..length]))
 }
 
 // Writes the line of an input to the front of `out`, and gives its length. Where `out` has less than ROOM bytes nothing is written, and the length is 0.
@@ -59,10 +44,10 @@ fn shown(part: u8, start: Address, recording: &[u8], out: &mut [u8]) -> usize
     let after = from_nothing(part, recording);
     let answer = after.answer;
     let replayed = told_of(answer);
-    if replayed.0 == 0 {
+    if replayed.number == 0 {
         return told(part, after.panel, start, out);
     }
-    write_refusal(replayed.0, replayed.1, out)
+    write_refusal(replayed.number, replayed.place, out)
 }
 
 fn told(part: u8, panel: Panel, start: Address, out: &mut [u8]) -> usize

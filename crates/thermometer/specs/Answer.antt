@@ -1,12 +1,11 @@
 -- The whole answer of the thermometer (paper 02, M-103): its number and place, and what it says.
-use Rattle.std.specs.Prelude.{ℕ, ◌≤◌, ◌≡◌, ℤ, Float}
+use Rattle.std.specs.Prelude.{ℕ, ◌≤◌, ◌≡◌, ℤ, Float, Ok, Err}
 use Rattle.rules.specs.Where.{Where}
 use Rattle.knowing.specs.Standing.{Standing, Sound}
 use Rattle.knowing.specs.Holds.{byte_in}
 use Rattle.terms.specs.declared.Part.{Part}
 use Rattle.terms.specs.declared.Part.TheVariants.{Pt6302, Pt6312, Pt6315}
-use Rattle.terms.specs.declared.PartRead.{PartRead}
-use Rattle.terms.specs.declared.PartRead.TheVariants.{Is, Refused}
+use Rattle.terms.specs.Part.{PartRead}
 use Rattle.character.specs.Fact.{Fact, range, dcram, lights, digits, text_bits}
 use Rattle.character_knowledge.specs.View.{kview}
 use Rattle.panel.specs.declared.Panel.{Panel}
@@ -83,5 +82,5 @@ TellsPart Pt6312 k start r = Answers 1 unknown r
 TellsPart Pt6315 k start r = Answers 1 unknown r
 
 abbrev pub Tells : PartRead → Panel → ℕ → Answer → Type 0
-Tells (Is p) k start r = TellsPart p k start r
-Tells (Refused at) k start r = Answers 1 unknown r
+Tells (Ok p) k start r = TellsPart p k start r
+Tells (Err e) k start r = Answers 1 unknown r

@@ -5,7 +5,7 @@ use Rattle.std.proofs.Common.{subst}
 use Rattle.knowing.specs.Standing.{Sound}
 use Rattle.fact.specs.View.{stands}
 use Rattle.lamps.specs.Whole.{whole_shown}
-use Rattle.terms.specs.declared.PartRead.{PartRead}
+use Rattle.terms.specs.Part.{PartRead}
 use Rattle.character.specs.Fact.{range, dcram}
 use Rattle.character_knowledge.specs.declared.Knowledge.{Knowledge}
 use Rattle.character_knowledge.specs.View.{kview}

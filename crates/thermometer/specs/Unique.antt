@@ -1,6 +1,6 @@
 -- Two answers that meet the promise are equal, the float of a reading to its last bit. The argument: the number, the
 -- place and what is said fix the answer, and a number of half degrees is one float.
-use Rattle.std.specs.Prelude.{ℕ, ◌-◌, ◌≡◌, refl, T}
+use Rattle.std.specs.Prelude.{ℕ, ◌-◌, ◌≡◌, refl, T, Ok, Err}
 use Rattle.std.proofs.Common.{arith, sym, ap, ◌∙◌, subst}
 use Rattle.std.proofs.Math.Path.{subst⁻¹}
 use Rattle.std.specs.Float.{binary32}
@@ -8,8 +8,7 @@ use Rattle.std.specs.Float.Ieee.{fits}
 use Rattle.rules.specs.Choice.{of3}
 use Rattle.rules.specs.Where.{where_both}
 use Rattle.terms.specs.declared.Part.TheVariants.{Pt6302, Pt6312, Pt6315}
-use Rattle.terms.specs.declared.PartRead.{PartRead}
-use Rattle.terms.specs.declared.PartRead.TheVariants.{Is, Refused}
+use Rattle.terms.specs.Part.{PartRead}
 use Rattle.character_knowledge.specs.View.{kview}
 use Rattle.panel.specs.declared.Panel.{Panel}
 use Rattle.half_degrees.specs.Laws.{one_float}
@@ -84,7 +83,7 @@ module _ (k : Panel) (start : ℕ) (r q : Answer) (sr : Fitting r) (sq : Fitting
 
   -- Two answers are one.
   pub one_temperature : (p : PartRead) → Tells p k start r → Tells p k start q → r ≡ q
-  one_temperature (Is Pt6302) h g = by_field h g
-  one_temperature (Is Pt6312) h g = same_refused 1 (λ e. omega arith) h g
-  one_temperature (Is Pt6315) h g = same_refused 1 (λ e. omega arith) h g
-  one_temperature (Refused at) h g = same_refused 1 (λ e. omega arith) h g
+  one_temperature (Ok Pt6302) h g = by_field h g
+  one_temperature (Ok Pt6312) h g = same_refused 1 (λ e. omega arith) h g
+  one_temperature (Ok Pt6315) h g = same_refused 1 (λ e. omega arith) h g
+  one_temperature (Err e) h g = same_refused 1 (λ e. omega arith) h g

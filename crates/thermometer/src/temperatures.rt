@@ -9,9 +9,10 @@ use field::Field;
 use field_told::tell;
 use half_degrees::degrees;
 use panel::Panel;
-use terms::{Address, Part, PartRead, Place, part_of};
+use terms::{Address, NoPart, Part, Place};
 
 // A reading in degrees, or why there is none; or why there is no answer, and then it is unknown: number 1, for another part than PT6302, too, 2, or 11.
+// What may not change: the names of these eight cases are the form that was asked for, by which `Answer.Says` tells them.
 #[derive(Clone, Copy)]
 pub enum Answer {
     Reading(f32),
@@ -28,10 +29,9 @@ pub enum Answer {
 pub fn temperature(part: u8, panel: Panel, start: Address) -> Answer
     ensures { Tells (part_of part) panel start.0 result }
 {
-    let read = part_of(part);
-    match read {
-        PartRead::Is(is) => of_part(is, panel, start),
-        PartRead::Refused(at) => Answer::NoPart(at),
+    match Part::try_from(part) {
+        Ok(part) => of_part(part, panel, start),
+        Err(NoPart(at)) => Answer::NoPart(at),
     }
 }
 
@@ -40,8 +40,7 @@ fn of_part(part: Part, panel: Panel, start: Address) -> Answer
 {
     match part {
         Part::Pt6302 => of_field(panel.character, start),
-        Part::Pt6312 => Answer::NoPart(Place(0)),
-        Part::Pt6315 => Answer::NoPart(Place(0)),
+        Part::Pt6312 | Part::Pt6315 => Answer::NoPart(Place(0)),
     }
 }
 
@@ -55,18 +54,14 @@ fn of_field(k: Knowledge, start: Address) -> Answer
     if 11 < start.0 {
         return Answer::NoField(Place(0));
     }
-    let control = k.control;
-    let lights = control.lights;
-    let digits = control.digits;
-    let dcram = k.dcram;
-    in_degrees(tell(lights, digits, dcram, start))
+    in_degrees(tell(k.control.lights, k.control.digits, k.dcram, start))
 }
 
 fn in_degrees(field: Field) -> Answer
     ensures { Answers 0 (said field) result }
 {
     match field {
-        Field::Reads(negative, halves) => Answer::Reading(degrees(negative, halves)),
+        Field::Reads(halves) => Answer::Reading(degrees(halves)),
         Field::NoReading => Answer::NoReading,
         Field::Dark => Answer::Dark,
         Field::Unknown => Answer::Unknown,

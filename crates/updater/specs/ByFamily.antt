@@ -1,6 +1,6 @@
 -- The update of a family, with what is known then. The argument: what is sent for a ring of cells is the update of the family that has so many; where a cell is
 -- named as the one behind the last run, something was sent, and where none is named, nothing has changed.
-use Rattle.std.specs.Prelude.{ℕ, zero, suc, ◌≡◌, refl, Bool, List}
+use Rattle.std.specs.Prelude.{ℕ, zero, suc, ◌≡◌, refl, Bool, List, Some, None}
 use Rattle.std.proofs.Common.{sym, ◌∙◌, subst}
 use Rattle.terms.specs.declared.Address.{Address}
 use Rattle.segment.specs.declared.Family.{Family}
@@ -10,13 +10,11 @@ use Rattle.segment_knowledge.specs.declared.Knowledge.{Knowledge}
 use Rattle.segment_knowledge.specs.View.{kview}
 use Rattle.panel.specs.declared.Panel.{Panel}
 use Rattle.runs.specs.Survey.{differ}
-use Rattle.updating.specs.declared.Updated.{Updated}
 use Rattle.updating.specs.declared.Refreshed.{Refreshed}
 use Rattle.updating.specs.Update.{is_set}
 use Rattle.updating.specs.Updated.{known_after}
-use Rattle.updating.specs.Answer.{number, UpdatesSegment}
+use Rattle.updating.specs.Answer.{Updated, number, UpdatesSegment}
 use Rattle.updating.specs.Refresh.{ByNumber}
-use Rattle.segment_updater.specs.declared.Behind.TheVariants.{Cell, NothingSent}
 use Rattle.segment_updater.specs.declared.Sending.{Sending}
 use Rattle.segment_updater.specs.Sends.{Sends, behind_of, sent_some, sent_none}
 use Rattle.segment_refreshed.specs.Sent.{SentSome, unsent_known}
@@ -40,20 +38,20 @@ module _ (q : Family) (k : Panel) (w : List ℕ) (n : ℕ) (cells : n ≡ (sizes
   told = rw cells at met
 
   -- Where a cell is named, something was sent.
-  pub named_sent : (set : Bool) (cell : Address) → set ≡ is_set (kview k.segment) → x.behind ≡ Cell cell → SentSome (sizes q) (kview k.segment) w set cell.0
+  pub named_sent : (set : Bool) (cell : Address) → set ≡ is_set (kview k.segment) → x.behind ≡ Some cell → SentSome (sizes q) (kview k.segment) w set cell.0
   named_sent set cell f e =
       let (z, some, end) = sent_some (sizes q).cells (differ k.segment.cells w) (number x.answer) cell (sym told ∙ e) in
       record { some = some; set_is = f; end_is = end }
 
-  pub named_learns : (cell : Address) (r : Panel) → x.behind ≡ Cell cell → LearnsSegment q k w r → ByNumber (number x.answer) k r (LearnsSegment q k w r)
+  pub named_learns : (cell : Address) (r : Panel) → x.behind ≡ Some cell → LearnsSegment q k w r → ByNumber (number x.answer) k r (LearnsSegment q k w r)
   named_learns cell r e h =
       let (z, some, end) = sent_some (sizes q).cells (differ k.segment.cells w) (number x.answer) cell (sym told ∙ e) in
       subst (λ (m : ℕ). ByNumber m k r (LearnsSegment q k w r)) (sym z) h
 
   -- Where none is named, all is as it was, be it that the update was refused or that it had nothing to send.
-  pub unnamed_learns : x.behind ≡ NothingSent → ByNumber (number x.answer) k k (LearnsSegment q k w k)
+  pub unnamed_learns : x.behind ≡ None → ByNumber (number x.answer) k k (LearnsSegment q k w k)
   unnamed_learns e = go (number x.answer) (sym told ∙ e)
     where
-      go : (m : ℕ) → behind_of (sizes q).cells (differ k.segment.cells w) m ≡ NothingSent → ByNumber m k k (LearnsSegment q k w k)
+      go : (m : ℕ) → behind_of (sizes q).cells (differ k.segment.cells w) m ≡ None → ByNumber m k k (LearnsSegment q k w k)
       go zero z = (unsent_known (sizes q) (kview k.segment) w (sent_none (sizes q).cells (differ k.segment.cells w) z), refl)
       go (suc m) z = refl

@@ -1,12 +1,11 @@
 -- The whole answer of an update: number, place and count, and every byte of the output afterwards (paper 02, M-102: "Refusals: 1, 2 and 10, in that
 -- order, with count 0; other parts count as 1 here").
-use Rattle.std.specs.Prelude.{ℕ, ◌≤◌, ◌≡◌, List, ◌++◌, length, drop}
+use Rattle.std.specs.Prelude.{ℕ, ◌≤◌, ◌≡◌, List, ◌++◌, length, drop, Result, Ok, Err}
 use Rattle.rules.specs.Where.{Where}
 use Rattle.knowing.specs.Standing.{Sound}
 use Rattle.terms.specs.declared.Part.{Part}
 use Rattle.terms.specs.declared.Part.TheVariants.{Pt6302, Pt6312, Pt6315}
-use Rattle.terms.specs.declared.PartRead.{PartRead}
-use Rattle.terms.specs.declared.PartRead.TheVariants.{Is, Refused}
+use Rattle.terms.specs.Part.{PartRead}
 use Rattle.terms.specs.Event.{recording}
 use Rattle.segment.specs.declared.Family.{Family}
 use Rattle.segment.specs.declared.Family.TheVariants as OfFamily
@@ -15,28 +14,31 @@ use Rattle.segment.specs.Fact.{range}
 use Rattle.segment_knowledge.specs.declared.Knowledge.{Knowledge}
 use Rattle.segment_knowledge.specs.View.{kview}
 use Rattle.panel.specs.declared.Panel.{Panel}
-use Rattle.updating.specs.declared.Updated.{Updated}
-use Rattle.updating.specs.declared.Updated.TheVariants.{Done, NoPart, OutOfRange, TooSmall}
+use Rattle.updating.specs.declared.StreamSize.{StreamSize}
+use Rattle.updating.specs.declared.NotUpdated.{NotUpdated}
+use Rattle.updating.specs.declared.NotUpdated.TheVariants.{NoPart, OutOfRange, TooSmall}
 use Rattle.updating.specs.Update.{update_events, wire_bytes}
+
+-- The size of what was sent, or why nothing was.
+abbrev pub Updated : Type 0
+Updated = Result StreamSize NotUpdated
 
 -- Paper 01's number for each case, its place, and the count of wire bytes.
 abbrev pub number : Updated → ℕ
-number (Done at n) = 0
-number (NoPart at) = 1
-number (OutOfRange at) = 2
-number (TooSmall at) = 10
+number (Ok size) = 0
+number (Err (NoPart at)) = 1
+number (Err (OutOfRange at)) = 2
+number (Err (TooSmall at)) = 10
 
 abbrev pub place : Updated → ℕ
-place (Done at n) = at.0
-place (NoPart at) = at.0
-place (OutOfRange at) = at.0
-place (TooSmall at) = at.0
+place (Ok size) = size.length.0
+place (Err (NoPart at)) = at.0
+place (Err (OutOfRange at)) = at.0
+place (Err (TooSmall at)) = at.0
 
 abbrev pub count : Updated → ℕ
-count (Done at n) = n
-count (NoPart at) = 0
-count (OutOfRange at) = 0
-count (TooSmall at) = 0
+count (Ok size) = size.wire
+count (Err why) = 0
 
 -- Refused by the number n, at place 0: nothing is counted, and the output is as it was.
 pub record RefusedBy (n : ℕ) (out : List ℕ) (r : Updated) (after : List ℕ) : Type 0 where
@@ -73,5 +75,5 @@ UpdatesPart Pt6312 k w out r after = UpdatesSegment OfFamily.Pt6312 k.segment w 
 UpdatesPart Pt6315 k w out r after = UpdatesSegment OfFamily.Pt6315 k.segment w out r after
 
 abbrev pub Updates : PartRead → Panel → List ℕ → List ℕ → Updated → List ℕ → Type 0
-Updates (Is p) k w out r after = UpdatesPart p k w out r after
-Updates (Refused at) k w out r after = RefusedBy 1 out r after
+Updates (Ok p) k w out r after = UpdatesPart p k w out r after
+Updates (Err e) k w out r after = RefusedBy 1 out r after

@@ -1,12 +1,11 @@
 -- The whole answer of the update that also gives what is known when its bytes have gone out (paper 02, M-110: "take the branch out"): number, place, count and
 -- output are the update's, always, and what is known then is what its events make of what was known, which is also what a replay of its bytes from there
 -- tells (`demand/Update.refresh_as_replayed`).
-use Rattle.std.specs.Prelude.{ℕ, zero, suc, ◌≡◌, List}
+use Rattle.std.specs.Prelude.{ℕ, zero, suc, ◌≡◌, List, Ok, Err}
 use Rattle.knowing.specs.Standing.{Standing}
 use Rattle.terms.specs.declared.Part.{Part}
 use Rattle.terms.specs.declared.Part.TheVariants.{Pt6302, Pt6312, Pt6315}
-use Rattle.terms.specs.declared.PartRead.{PartRead}
-use Rattle.terms.specs.declared.PartRead.TheVariants.{Is, Refused}
+use Rattle.terms.specs.Part.{PartRead}
 use Rattle.segment.specs.declared.Family.TheVariants as OfFamily
 use Rattle.segment.specs.Family.{sizes}
 use Rattle.parts.specs.Facts.{Fact}
@@ -33,8 +32,8 @@ ByNumber (suc n) k r P = r ≡ k
 
 -- By what the part byte names; where it names no part, all is as handed in.
 abbrev pub KnownThen : PartRead → ℕ → Panel → List ℕ → Panel → Type 0
-KnownThen (Is p) n k w r = ByNumber n k r (Learns p k w r)
-KnownThen (Refused at) n k w r = r ≡ k
+KnownThen (Ok p) n k w r = ByNumber n k r (Learns p k w r)
+KnownThen (Err e) n k w r = r ≡ k
 
 -- The update's answer and output, and what is known then.
 abbrev pub Refreshes : PartRead → Panel → List ℕ → List ℕ → Refreshed → List ℕ → Type 0

@@ -14,10 +14,18 @@ use panel::Panel;
 use segment_knowledge::{Control, INCREMENT, WRITE_DISPLAY};
 use terms::Place;
 
-#[derive(Clone, Copy)]
-pub enum Updated {
-    // Sent: the length of the recording that was written, and how many of its bytes go over the wire.
-    Done(Place, usize),
+// What an update comes to: sent, or why nothing was.
+pub type Updated = Result<StreamSize, NotUpdated>;
+
+// The length of the recording that was written, and how many of its bytes go over the wire.
+#[derive(Clone, Copy, Debug, PartialEq, Eq)]
+pub struct StreamSize {
+    pub length: Place,
+    pub wire: usize,
+}
+
+#[derive(Clone, Copy, Debug, PartialEq, Eq)]
+pub enum NotUpdated {
     // The part byte names no part with cells to update: PT6302 has none.
     NoPart(Place),
     // A known value is out of its fact's range.
@@ -43,7 +51,7 @@ pub fn is_set(control: Control) -> bool
 }
 
 // The reading count behind an update: 40H, which goes first where the setting was not known, sets it back.
-pub fn reads_behind(set: bool, count: Single) -> Single
+pub fn reads_behind(set: bool, count: Single<u8>) -> Single<u8>
     ensures { stands result ≡ whether set (stands count) (known 0) }
 {
     if set { count } else { Single::Known(0) }

@@ -1,29 +1,33 @@
-// Writing text to lent memory, as far as there is room. Each function gives the place behind what it wrote.
+// Writing text to lent memory, as far as there is room.
 #![tactic(auto)]
 
-ghost use Rattle.writing.specs.Writes.{Writes};
 ghost use Rattle.std.specs.Prelude.{[], ◌∷◌};
+ghost use Rattle.writing.specs.Wrote.{Wrote};
 
-// One byte at its place.
-pub fn put(out: &mut [u8], at: usize, byte: u8) -> usize
-    ensures { Writes out.old at (byte ∷ []) result out.new }
-{
-    if at < out.len() {
-        out[at] = byte;
-        return at + 1;
-    }
-    at
+// Lent memory, and the place behind what was written so far. It may be any place: behind the memory's end nothing is written.
+#[derive(Drop)]
+pub struct Writer<'a> {
+    pub out: &'a mut [u8],
+    pub at: usize,
 }
 
-// Several bytes, one behind the other.
-pub fn words(out: &mut [u8], at: usize, text: &[u8]) -> usize
-    ensures { Writes out.old at text.now result out.new }
-{
-    let mut to = at;
-    let mut i = 0;
-    while i < text.len() {
-        to = put(out, to, text[i]);
-        i += 1;
+impl Writer<'_> {
+    // One byte.
+    pub fn put(&mut self, byte: u8)
+        ensures { Wrote self.old (byte ∷ []) self.new }
+    {
+        if self.at < self.out.len() {
+            self.out[self.at] = byte;
+            self.at += 1;
+        }
     }
-    to
+
+    // Several bytes, one behind the other.
+    pub fn words(&mut self, text: &[u8])
+        ensures { Wrote self.old text.now self.new }
+    {
+        for byte in text {
+            self.put(*byte);
+        }
+    }
 }

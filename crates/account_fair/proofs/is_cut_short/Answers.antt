@@ -1,30 +1,27 @@
 -- `account_fair::is_cut_short` meets its contract: what is read at the front tells whether the bytes are cut short.
 -- Assumes nothing.
-use mathlib.Core.Path.{sym, ap, ◌∙◌}
-use Rattle.recording.specs.declared.Read.TheVariants.{Refused}
+use Rattle.std.specs.Prelude.{◌≡◌, refl, Err}
+use Rattle.std.proofs.Common.{sym, ap, ◌∙◌}
+use Rattle.recording.specs.declared.Refusal.{Refusal}
+use Rattle.recording.specs.declared.Refusal.TheVariants.{Unlisted, Foreign, CutShort, Forbidden}
+use Rattle.recording.specs.Append.{Told}
 use Rattle.account_fair.specs.Laws.{is_cut, is_told}
 use Rattle.account_fair.proofs.is_cut_short.Goals as goal
 
+-- Any other refusal is told whatever follows.
+other_told : (x : Refusal) → ¬ (x ≡ CutShort) → Told (Err x)
+other_told Unlisted other = tt
+other_told Foreign other = tt
+other_told CutShort other = other refl
+other_told Forbidden other = tt
+
 pub returns-in-CutShort : goal.returns-in-CutShort
-returns-in-CutShort c = let a = c.args in
-    let e = sym c.record_at-read.ensures ∙ c.in-Refused.is ∙ ap Refused c.in-CutShort.is in
-    is_cut a.part a.bytes.now c.requires e
+returns-in-CutShort c =
+    is_cut c.args.part c.args.bytes.now c.requires (sym c.record_at.ensures ∙ c.in-Err.is ∙ ap Err c.in-CutShort.is)
 
-pub returns-in-Unlisted : goal.returns-in-Unlisted
-returns-in-Unlisted c = let a = c.args in
-    let e = sym c.record_at-read.ensures ∙ c.in-Refused.is ∙ ap Refused c.in-Unlisted.is in
-    is_told a.part a.bytes.now _ c.requires e tt
+pub returns-in_default : goal.returns-in_default
+returns-in_default c =
+    is_told c.args.part c.args.bytes.now _ c.requires (sym c.record_at.ensures ∙ c.in-Err.is) (other_told c.in-Err.refusal c.in_default.not-CutShort)
 
-pub returns-in-Foreign : goal.returns-in-Foreign
-returns-in-Foreign c = let a = c.args in
-    let e = sym c.record_at-read.ensures ∙ c.in-Refused.is ∙ ap Refused c.in-Foreign.is in
-    is_told a.part a.bytes.now _ c.requires e tt
-
-pub returns-in-Forbidden : goal.returns-in-Forbidden
-returns-in-Forbidden c = let a = c.args in
-    let e = sym c.record_at-read.ensures ∙ c.in-Refused.is ∙ ap Refused c.in-Forbidden.is in
-    is_told a.part a.bytes.now _ c.requires e tt
-
-pub returns-in-Is : goal.returns-in-Is
-returns-in-Is c = let a = c.args in
-    is_told a.part a.bytes.now _ c.requires (sym c.record_at-read.ensures ∙ c.in-Is.is) tt
+pub returns-in-Ok : goal.returns-in-Ok
+returns-in-Ok c = is_told c.args.part c.args.bytes.now _ c.requires (sym c.record_at.ensures ∙ c.in-Ok.is) tt

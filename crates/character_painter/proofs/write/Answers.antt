@@ -2,9 +2,10 @@
 -- front. Assumes nothing.
 use Prim.Native.Nat.{◌≤◌}
 use native.Mathlib.Omega.{arith}
-use mathlib.Core.Path.{◌∙◌}
 use lib.ListN.{length}
-use Rattle.writing.specs.Sets.{front}
+use borrow.Author.Rules.{rules}
+use Rattle.writing.specs.Laws.{writes_front}
+use Rattle.writing.specs.Wrote.{wrote_back}
 use Rattle.character.specs.Value.{lit}
 use Rattle.painting.specs.Character.{four_settings}
 use Rattle.painting.specs.Answer.{character_stream}
@@ -15,9 +16,8 @@ pub returns : goal.returns
 returns c =
     let a = c.args in
     let p = a.picture in
-    let r = c.write_rams-at.ensures in
+    let r = c.write_rams.ensures in
     let rest = four_settings p.port p.duty p.digits (lit p.lights) in
     let z : length (character_stream p) ≤ length a.out.now =
-    omega (arith, seven_length p.dcram p.cgram p.adram rest, r.1.1.0, r.1.1.1.0, r.1.1.1.1, c.requires.1.1.1) in
-    rams_then a.out.now _ _ _ p.dcram p.cgram p.adram rest (omega (arith, r.0, r.1.1.0, r.1.1.1.0, r.1.1.1.1)) r.1.0 c.write_settings.ensures
-    ∙ front (character_stream p) a.out.now z
+    omega (arith, seven_length p.dcram p.cgram p.adram rest, r.1, c.requires) in
+    (writes_front z (wrote_back (rams_then p.dcram p.cgram p.adram rest r.0 c.write_settings.ensures) (search rules))).1

@@ -1,13 +1,19 @@
 -- `character_painter::write_settings` meets its contract: the four strobes stand one behind the other.
 -- Assumes nothing.
-use Rattle.character_painter.specs.Seven.{settings_written}
+use Prim.Native.Nat.{◌+◌}
+use mathlib.Core.List.{List, [], ◌∷◌, ◌++◌}
+use Rattle.terms.specs.declared.Event.{Event}
+use Rattle.terms.specs.Event.{strobe}
+use Rattle.character.specs.Value.{lit}
+use Rattle.strobes.specs.Stream.{wrote_events}
 use Rattle.character_painter.proofs.write_settings.Goals as goal
 
 pub returns : goal.returns
 returns c =
     let a = c.args in
-    let s₁ = c.write_single-first.ensures in
-    let s₂ = c.write_single-second.ensures in
-    let s₃ = c.write_single-third.ensures in
-    rw (← c.lights_of.ensures)
-    (settings_written a.out.now _ _ _ _ a.at _ _ _ _ _ _ _ s₁.0 s₁.1 s₂.0 s₂.1 s₃.0 s₃.1 c.write_single.ensures.1)
+    let fourth : List Event = strobe ((0x70 + lit a.lights) ∷ []) in
+    let third : List Event = strobe ((0x60 + a.digits) ∷ []) in
+    let second : List Event = strobe ((0x50 + a.duty) ∷ []) in
+    wrote_events (strobe ((0x40 + a.port) ∷ [])) (second ++ (third ++ fourth)) c.write_single.ensures
+    (wrote_events second (third ++ fourth) c.write_single-2.ensures
+    (wrote_events third fourth c.write_single-3.ensures (rw c.lights_of.ensures at c.write_single-4.ensures)))

@@ -6,12 +6,13 @@ use Prim.Native.Nat.{◌-◌}
 use lib.ListN.{length}
 use Rattle.recording.specs.Walk.{walked}
 use Rattle.character_knowledge.specs.View.{kview}
-use Rattle.character_walks.specs.Reached.{knowledge, Reached}
+use Rattle.character_known.specs.Together.{together}
+use Rattle.character_walks.specs.Reached.{Reached}
 use Rattle.character_walks.proofs.character_walk.Given as goal
 
 abbrev pub invariant-loop-i : goal.invariant-loop-i
 invariant-loop-i l =
-    Reached l.part l.bytes (walked l.part l.bytes) (kview (knowledge l.initial.dcram l.initial.cgram l.initial.adram l.initial.control)) l.i (knowledge l.dcram l.cgram l.adram l.control)
+    Reached l.part l.bytes (walked l.part l.bytes) (kview (together l.initial.rows l.initial.control)) l.i (together l.rows l.control)
 
 abbrev pub decreases-loop-i : goal.decreases-loop-i
 decreases-loop-i l = length l.bytes - l.i

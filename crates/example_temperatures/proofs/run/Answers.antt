@@ -7,4 +7,4 @@ use Rattle.example_temperatures.proofs.run.Goals as goal
 pub tell-requires : goal.tell-requires
 tell-requires g c =
     let t = c.temperature-answer in
-    printable_as t.result (answer_halved (part_of c.args.example.part) c.with_character.result _ t.result t.ensures)
+    printable_as t.result (answer_halved (part_of c.args.example.now.part) c.with_character.result _ t.result t.ensures)

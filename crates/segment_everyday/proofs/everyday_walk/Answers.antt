@@ -39,12 +39,6 @@ shown_as l i e h = subst (λ (x : Everyday). Shows l i x) e h
 hit : (s : Sizes) (c : Control) {t u : Target} → t ≡ u → Hits s c t → Hits s c u
 hit s c e h = subst (λ (x : Target). Hits s c x) e h
 
-pub loop-i-init : goal.loop-i-init
-loop-i-init c = record { behind = omega arith; inside = search rules; size = search rules; stands = λ part first h. h }
-
-pub loop-i-smaller-in-Falls : goal.loop-i-smaller-in-Falls
-loop-i-smaller-in-Falls c = omega (arith, c.loop-i-test.true)
-
 pub loop-i-preserved-in-Falls : goal.loop-i-preserved-in-Falls
 loop-i-preserved-in-Falls c = let a = c.args in
     let at = c.loop-i in
@@ -53,12 +47,6 @@ loop-i-preserved-in-Falls c = let a = c.args in
 pub to_mode-control-requires : goal.to_mode-control-requires
 to_mode-control-requires c = let a = c.args in
     mode_small (sizes_of a.family) c.in-Strobe.byte _ (sym c.in-Mode.is ∙ c.command_of-command.ensures)
-
-pub loop-i-smaller-in-Strobe : goal.loop-i-smaller-in-Strobe
-loop-i-smaller-in-Strobe c = let a = c.args in
-    let at = c.loop-i in
-    let there = (shown_as a.bytes.now at.i c.in-Strobe.is c.everyday_at-record.ensures).1.there in
-    omega (arith, there)
 
 pub loop-i-preserved-in-Strobe : goal.loop-i-preserved-in-Strobe
 loop-i-preserved-in-Strobe c = let a = c.args in
@@ -79,9 +67,6 @@ loop-i-preserved-in-Strobe c = let a = c.args in
       | in-Start w ↦ goes_as w.cells-is w.control-is (order at.cells (kept_of w.address_set-control.result) at.invariant.size (sets_by a.family byte begun _ _ _ is w.in-Start.is w.address_set-control.ensures) (λ j k. refl))
     ]
 
-pub loop-i-smaller-in-Rises : goal.loop-i-smaller-in-Rises
-loop-i-smaller-in-Rises c = omega (arith, c.loop-i-test.true)
-
 pub loop-i-preserved-in-Rises : goal.loop-i-preserved-in-Rises
 loop-i-preserved-in-Rises c = let a = c.args in
     let at = c.loop-i in
@@ -91,61 +76,27 @@ pub put_run-count-requires : goal.put_run-count-requires
 put_run-count-requires c = let a = c.args in
     let at = c.loop-i in
     let h = hit (sizes_of a.family) at.control c.in-Cell.is c.goes_to-to.ensures in
-    let b = shown_as a.bytes.now at.i c.in-ByteIn.is c.everyday_at-record.ensures in
     let s = c.sizes-sizes.ensures in
     let room : c.sizes-sizes.result.cells ≤ 36 = rw s (room a.family).0 in
-    ((rw s h.inside, omega (arith, room, at.invariant.size)), (b.there, b.kind))
+    record { inside = rw s h.inside; room = omega (arith, room, at.invariant.size) }
 
 pub counted_on-control-requires : goal.counted_on-control-requires
 counted_on-control-requires c = subst (λ (x : Sizes). c.in-Cell.cell.0 + c.put_run-count.result ≤ x.cells) c.sizes-sizes.ensures c.put_run-count.ensures.room
-
-pub loop-i-smaller-in-Cell : goal.loop-i-smaller-in-Cell
-loop-i-smaller-in-Cell c = omega (arith, c.put_run-count.ensures.run.fits, c.put_run-count.ensures.some)
 
 pub loop-i-preserved-in-Cell : goal.loop-i-preserved-in-Cell
 loop-i-preserved-in-Cell c = let a = c.args in
     let at = c.loop-i in
     goes_on at.invariant (omega arith) c.put_run-count.ensures.run.fits (c.put_run-count.auto.codes ∙ at.invariant.size) (λ part first. stores part a.family a.bytes.now first at.i _ c.in-Cell.cell.0 at.cells _ at.control _ (hit (sizes_of a.family) at.control c.in-Cell.is c.goes_to-to.ensures) (subst (λ (x : Sizes). PutsRun 65535 c.in-Cell.cell.0 x.cells a.bytes.now at.i at.cells c.put_run-count.result c.put_run-count.new.codes) c.sizes-sizes.ensures c.put_run-count.ensures) (c.put_run-count.auto.codes ∙ at.invariant.size) c.counted_on-control.ensures)
 
-pub passed-requires : goal.passed-requires
-passed-requires c = let a = c.args in
-    let at = c.loop-i in
-    let b = shown_as a.bytes.now at.i c.in-ByteIn.is c.everyday_at-record.ensures in
-    (b.there, b.kind)
-
-pub loop-i-smaller-then-none_known : goal.loop-i-smaller-then-none_known
-loop-i-smaller-then-none_known c = omega (arith, c.passed.ensures.1.fits, c.passed.ensures.0)
-
 pub loop-i-preserved-then-none_known : goal.loop-i-preserved-then-none_known
 loop-i-preserved-then-none_known c = let a = c.args in
     let at = c.loop-i in
-    goes_on at.invariant (omega arith) c.passed.ensures.1.fits at.invariant.size (λ part first. roam part a.family a.bytes.now first at.i _ at.cells at.cells at.control (hit (sizes_of a.family) at.control c.in-Anywhere.is c.goes_to-to.ensures) c.passed.ensures.1 at.invariant.size (none_together part a.family a.bytes.now first at.i c.passed.result at.cells (λ j k. c.none_known.ensures c.if-none_known.true 8 j k)))
-
-pub shared-common-requires : goal.shared-common-requires
-shared-common-requires c = let a = c.args in
-    let at = c.loop-i in
-    let b = shown_as a.bytes.now at.i c.in-ByteIn.is c.everyday_at-record.ensures in
-    (b.there, b.kind)
-
-pub loop-i-smaller-else-none_known : goal.loop-i-smaller-else-none_known
-loop-i-smaller-else-none_known c = omega (arith, c.shared-common.ensures.run.fits, c.shared-common.ensures.counted)
+    goes_on at.invariant (omega arith) c.passed.ensures.run.fits at.invariant.size (λ part first. roam part a.family a.bytes.now first at.i _ at.cells at.cells at.control (hit (sizes_of a.family) at.control c.in-Anywhere.is c.goes_to-to.ensures) c.passed.ensures.run at.invariant.size (none_together part a.family a.bytes.now first at.i c.passed.result at.cells (λ j k. c.none_known.ensures c.if-none_known.true 8 j k)))
 
 pub loop-i-preserved-else-none_known : goal.loop-i-preserved-else-none_known
 loop-i-preserved-else-none_known c = let a = c.args in
     let at = c.loop-i in
     goes_on at.invariant (omega arith) c.shared-common.ensures.run.fits (c.meets.ensures.size ∙ at.invariant.size) (λ part first. roam part a.family a.bytes.now first at.i _ at.cells _ at.control (hit (sizes_of a.family) at.control c.in-Anywhere.is c.goes_to-to.ensures) c.shared-common.ensures.run (c.meets.ensures.size ∙ at.invariant.size) (met_together part a.family a.bytes.now first at.i _ _ at.cells _ c.shared-common.ensures c.meets.ensures))
-
-pub shared-common-requires-in-Perhaps : goal.shared-common-requires-in-Perhaps
-shared-common-requires-in-Perhaps c = let a = c.args in
-    let at = c.loop-i in
-    let b = shown_as a.bytes.now at.i c.in-ByteIn.is c.everyday_at-record.ensures in
-    (b.there, b.kind)
-
-pub meets-requires-then-not-none_known : goal.meets-requires-then-not-none_known
-meets-requires-then-not-none_known c = c.loop-i.invariant.size
-
-pub loop-i-smaller-in-Perhaps : goal.loop-i-smaller-in-Perhaps
-loop-i-smaller-in-Perhaps c = omega (arith, c.shared-common-in-Perhaps.ensures.run.fits, c.shared-common-in-Perhaps.ensures.counted)
 
 pub loop-i-preserved-in-Perhaps : goal.loop-i-preserved-in-Perhaps
 loop-i-preserved-in-Perhaps c = let a = c.args in
@@ -158,25 +109,10 @@ loop-i-preserved-in-Perhaps c = let a = c.args in
       | else-not-none_known w ↦ goes_as w.cells-is refl (on at.cells at.invariant.size (λ part first. none_together part a.family a.bytes.now first at.i c.shared-common-in-Perhaps.result.count at.cells (λ j k. c.none_known-in-Perhaps.ensures w.if-not-none_known.false 8 j k)))
     ]
 
-pub passed-requires-in-Nowhere : goal.passed-requires-in-Nowhere
-passed-requires-in-Nowhere c = let a = c.args in
-    let at = c.loop-i in
-    let b = shown_as a.bytes.now at.i c.in-ByteIn.is c.everyday_at-record.ensures in
-    (b.there, b.kind)
-
-pub loop-i-smaller-in-Nowhere : goal.loop-i-smaller-in-Nowhere
-loop-i-smaller-in-Nowhere c = omega (arith, c.passed-in-Nowhere.ensures.1.fits, c.passed-in-Nowhere.ensures.0)
-
 pub loop-i-preserved-in-Nowhere : goal.loop-i-preserved-in-Nowhere
 loop-i-preserved-in-Nowhere c = let a = c.args in
     let at = c.loop-i in
-    goes_on at.invariant (omega arith) c.passed-in-Nowhere.ensures.1.fits at.invariant.size (λ part first. passes part a.family a.bytes.now first at.i _ at.cells at.control c.passed-in-Nowhere.ensures.1 (λ b. ((hit (sizes_of a.family) at.control c.in-Nowhere.is c.goes_to-to.ensures) b).knows (held at.cells)))
-
-pub loop-i-smaller-in-Led : goal.loop-i-smaller-in-Led
-loop-i-smaller-in-Led c = let a = c.args in
-    let at = c.loop-i in
-    let there = (shown_as a.bytes.now at.i c.in-ByteIn.is c.everyday_at-record.ensures).there in
-    omega (arith, there)
+    goes_on at.invariant (omega arith) c.passed-in-Nowhere.ensures.run.fits at.invariant.size (λ part first. passes part a.family a.bytes.now first at.i _ at.cells at.control c.passed-in-Nowhere.ensures.run (λ b. ((hit (sizes_of a.family) at.control c.in-Nowhere.is c.goes_to-to.ensures) b).knows (held at.cells)))
 
 pub loop-i-preserved-in-Led : goal.loop-i-preserved-in-Led
 loop-i-preserved-in-Led c = let a = c.args in
@@ -190,23 +126,11 @@ meet_one-requires c = let a = c.args in
     let h = hit (sizes_of a.family) at.control c.in-PerhapsCell.is c.goes_to-to.ensures in
     omega (arith, h.1, (room a.family).0, at.invariant.size)
 
-pub loop-i-smaller-in-PerhapsCell : goal.loop-i-smaller-in-PerhapsCell
-loop-i-smaller-in-PerhapsCell c = let a = c.args in
-    let at = c.loop-i in
-    let there = (shown_as a.bytes.now at.i c.in-ByteIn.is c.everyday_at-record.ensures).there in
-    omega (arith, there)
-
 pub loop-i-preserved-in-PerhapsCell : goal.loop-i-preserved-in-PerhapsCell
 loop-i-preserved-in-PerhapsCell c = let a = c.args in
     let at = c.loop-i in
     let b = shown_as a.bytes.now at.i c.in-ByteIn.is c.everyday_at-record.ensures in
     goes_on at.invariant (omega arith) (omega (arith, b.there)) (c.meet_one.auto.codes ∙ at.invariant.size) (λ part first. took part a.family a.bytes.now first at.i _ at.cells _ at.control (record { control = c.perhaps_stepped-control.result; change = Meet c.in-PerhapsCell.cell 1 1 c.in-ByteIn.byte }) b (c.meet_one.auto.codes ∙ at.invariant.size) (drifts_at a.family at.control _ _ _ _ _ (hit (sizes_of a.family) at.control c.in-PerhapsCell.is c.goes_to-to.ensures).0 (hit (sizes_of a.family) at.control c.in-PerhapsCell.is c.goes_to-to.ensures).1 (c.code_of.ensures 4 wide4) c.perhaps_lit-control-in-PerhapsCell.ensures c.perhaps_stepped-control.ensures) (c.meet_one.ensures 8 wide8))
-
-pub loop-i-smaller-in-PerhapsLed : goal.loop-i-smaller-in-PerhapsLed
-loop-i-smaller-in-PerhapsLed c = let a = c.args in
-    let at = c.loop-i in
-    let there = (shown_as a.bytes.now at.i c.in-ByteIn.is c.everyday_at-record.ensures).there in
-    omega (arith, there)
 
 pub loop-i-preserved-in-PerhapsLed : goal.loop-i-preserved-in-PerhapsLed
 loop-i-preserved-in-PerhapsLed c = let a = c.args in
@@ -214,42 +138,21 @@ loop-i-preserved-in-PerhapsLed c = let a = c.args in
     let b = shown_as a.bytes.now at.i c.in-ByteIn.is c.everyday_at-record.ensures in
     goes_on at.invariant (omega arith) (omega (arith, b.there)) at.invariant.size (λ part first. took part a.family a.bytes.now first at.i _ at.cells at.cells at.control (kept_of c.perhaps_lit-control-in-PerhapsLed.result) b at.invariant.size (drifts_lit a.family at.control _ _ _ (hit (sizes_of a.family) at.control c.in-PerhapsLed.is c.goes_to-to.ensures) (c.code_of-in-PerhapsLed.ensures 4 wide4) c.perhaps_lit-control-in-PerhapsLed.ensures) (λ j k. refl))
 
-pub passed-requires-then-none_known-2 : goal.passed-requires-then-none_known-2
-passed-requires-then-none_known-2 c = let a = c.args in
-    let at = c.loop-i in
-    let b = shown_as a.bytes.now at.i c.in-ByteIn.is c.everyday_at-record.ensures in
-    (b.there, b.kind)
-
-pub loop-i-smaller-then-none_known-2 : goal.loop-i-smaller-then-none_known-2
-loop-i-smaller-then-none_known-2 c = omega (arith, c.passed-then-none_known-2.ensures.1.fits, c.passed-then-none_known-2.ensures.0)
-
 pub loop-i-preserved-then-none_known-2 : goal.loop-i-preserved-then-none_known-2
 loop-i-preserved-then-none_known-2 c = let a = c.args in
     let at = c.loop-i in
-    goes_on at.invariant (omega arith) c.passed-then-none_known-2.ensures.1.fits at.invariant.size (λ part first. passes part a.family a.bytes.now first at.i _ at.cells at.control c.passed-then-none_known-2.ensures.1 (lost_deaf a.family at.control (held at.cells) (c.nothing_left.ensures c.if-nothing_left.true) (λ j k. c.none_known-then-nothing_left.ensures c.if-none_known-2.true 8 j k)))
-
-pub loop-i-smaller-then-count-gt0 : goal.loop-i-smaller-then-count-gt0
-loop-i-smaller-then-count-gt0 c = omega (arith, c.still-count.ensures.run.fits, c.if-count-gt0.true)
+    goes_on at.invariant (omega arith) c.passed-then-none_known-2.ensures.run.fits at.invariant.size (λ part first. passes part a.family a.bytes.now first at.i _ at.cells at.control c.passed-then-none_known-2.ensures.run (lost_deaf a.family at.control (held at.cells) (c.nothing_left.ensures c.if-nothing_left.true) (λ j k. c.none_known-then-nothing_left.ensures c.if-none_known-2.true 8 j k)))
 
 pub loop-i-preserved-then-count-gt0 : goal.loop-i-preserved-then-count-gt0
 loop-i-preserved-then-count-gt0 c = let a = c.args in
     let at = c.loop-i in
     goes_on at.invariant (omega arith) c.still-count.ensures.run.fits at.invariant.size (λ part first. stays part a.family a.bytes.now first at.i _ at.cells at.control c.still-count.ensures)
 
-pub loop-i-smaller-else-count-gt0 : goal.loop-i-smaller-else-count-gt0
-loop-i-smaller-else-count-gt0 c = let a = c.args in
-    let at = c.loop-i in
-    let there = (shown_as a.bytes.now at.i c.in-ByteIn.is c.everyday_at-record.ensures).there in
-    omega (arith, there)
-
 pub loop-i-preserved-else-count-gt0 : goal.loop-i-preserved-else-count-gt0
 loop-i-preserved-else-count-gt0 c = let a = c.args in
     let at = c.loop-i in
     let b = shown_as a.bytes.now at.i c.in-ByteIn.is c.everyday_at-record.ensures in
-    goes_on at.invariant (omega arith) (omega (arith, b.there)) (c.taken-control.auto.cells ∙ at.invariant.size) (λ part first. takes part a.family a.bytes.now first at.i 2 (ByteIn c.in-ByteIn.byte) at.cells _ at.control _ (omega (arith, b.there)) (byte_is part a.bytes.now at.i _ b) (c.taken-control.auto.cells ∙ at.invariant.size) c.taken-control.ensures)
-
-pub loop-i-smaller : goal.loop-i-smaller
-loop-i-smaller c = omega (arith, c.loop-i-test.true)
+    goes_on at.invariant (omega arith) (omega (arith, b.there)) (search rules) (λ part first. takes part a.family a.bytes.now first at.i 2 (ByteIn c.in-ByteIn.byte) at.cells _ at.control _ (omega (arith, b.there)) (byte_is part a.bytes.now at.i _ b) (search rules) c.taken-control.ensures)
 
 pub loop-i-preserved : goal.loop-i-preserved
 loop-i-preserved c = let a = c.args in

@@ -8,10 +8,6 @@ pub returns-in-Pt6312 : goal.returns-in-Pt6312
 unfolding sizes
 returns-in-Pt6312 c = rw c.in-Pt6312.is (omega arith)
 
-pub returns-then-byte-lt8 : goal.returns-then-byte-lt8
+pub returns-in-Pt6315 : goal.returns-in-Pt6315
 unfolding sizes
-returns-then-byte-lt8 c = rw c.in-Pt6315.is (omega arith)
-
-pub returns-else-byte-lt8 : goal.returns-else-byte-lt8
-unfolding sizes
-returns-else-byte-lt8 c = rw c.in-Pt6315.is (omega arith)
+returns-in-Pt6315 c = rw c.in-Pt6315.is (omega arith)

@@ -1,11 +1,7 @@
 -- `segment_refreshed::spell` meets its contract: the codes passed say their wanted bytes, and the others are as they were, at every step of the loop.
 -- Assumes nothing.
-use Prim.Native.Nat.{◌≤◌, ◌-◌}
 use Rattle.segment_refreshed.specs.Sent.{Spelt}
 use Rattle.segment_refreshed.proofs.spell.Given as goal
 
 abbrev pub invariant-loop-i : goal.invariant-loop-i
-invariant-loop-i l = (l.i ≤ l.n) × Spelt l.wanted l.i l.initial.cells l.cells
-
-abbrev pub decreases-loop-i : goal.decreases-loop-i
-decreases-loop-i l = l.n - l.i
+invariant-loop-i l = Spelt l.wanted l.i l.initial.cells l.cells

@@ -14,11 +14,3 @@ key_at-requires c =
     let a = c.args in
     let t : a.chip.count < (sizes a.family).keys = rw c.sizes-sizes.ensures at c.if-chip-sizes.true in
     omega (arith, t, (room a.family).1)
-
-pub returns-then-chip-sizes : goal.returns-then-chip-sizes
-returns-then-chip-sizes c =
-    let t = rw c.sizes-sizes.ensures at c.if-chip-sizes.true in
-    simp (lt-ltb _ _ t) (ap becomes (sym c.key_at.ensures))
-
-pub returns-else-chip-sizes : goal.returns-else-chip-sizes
-returns-else-chip-sizes c = simp (le-ltb _ _ (rw c.sizes-sizes.ensures at c.if-chip-sizes.false))

@@ -7,8 +7,7 @@ use Rattle.temperature_line.proofs.write_line.Goals as goal
 
 pub returns-then-out-lt-ROOM : goal.returns-then-out-lt-ROOM
 returns-then-out-lt-ROOM c =
-    let a = c in
-    let x = a_line a.args.answer a.requires in
+    let x = a_line c.args.answer c.requires in
     record { line = x.0; lined = x.1; printed = prints_nothing (omega (arith, c.if-out-lt-ROOM.true)) }
 
 pub returns : goal.returns

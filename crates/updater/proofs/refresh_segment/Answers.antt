@@ -21,42 +21,42 @@ returns-then-not-sound c = (
   refl,
 )
 
-pub send-sending-requires : goal.send-sending-requires
-send-sending-requires c =
+pub invariant_of-ring : goal.invariant_of-ring
+invariant_of-ring c =
     let a = c.args in
     let n : c.sizes-sizes.result.cells ≡ (sizes a.family).cells = ap (λ (z : Sizes). z.cells) c.sizes-sizes.ensures in
     let cells : length a.panel.segment.cells ≡ 36 = search rules in
     let wanted : length a.wanted ≡ 36 = search rules in
-    let r = (room a.family).0 in
-    let m = some_cells a.family in
-    (omega arith, omega arith, omega arith, omega arith)
+    let most = (room a.family).0 in
+    let least = some_cells a.family in
+    record { some = omega arith; few = omega arith; known = omega arith; asked = omega arith }
 
 pub refreshed-then-requires : goal.refreshed-then-requires
 refreshed-then-requires c =
     let a = c.args in
     let n : c.sizes-sizes.result.cells ≡ (sizes a.family).cells = ap (λ (z : Sizes). z.cells) c.sizes-sizes.ensures in
     let t : c.is_set-set.result ≡ is_set (kview a.panel.segment) = c.is_set-set.ensures (held a.panel.segment.cells) in
-    named_sent a.family a.panel a.wanted _ n c.send-sending.result c.send-sending.ensures.1 _ _ t c.in-Cell.is
+    named_sent a.family a.panel a.wanted _ n c.send-sending.result c.send-sending.ensures.1 _ _ t c.in-Some.is
 
-pub returns-in-NothingSent : goal.returns-in-NothingSent
-returns-in-NothingSent c =
+pub returns-in_default : goal.returns-in_default
+returns-in_default c =
     let a = c.args in
     let s = c.send-sending in
     let n : c.sizes-sizes.result.cells ≡ (sizes a.family).cells = ap (λ (z : Sizes). z.cells) c.sizes-sizes.ensures in
     let t : c.is_set-set.result ≡ is_set (kview a.panel.segment) = c.is_set-set.ensures (held a.panel.segment.cells) in
     let sound = c.sound.ensures.so c.if-not-sound.false in (
       good sound (by_family a.family a.panel.segment a.wanted a.out.now _ _ _ _ n t s.ensures.0),
-      unnamed_learns a.family a.panel a.wanted _ n s.result s.ensures.1 c.in-NothingSent.is,
+      unnamed_learns a.family a.panel a.wanted _ n s.result s.ensures.1 c.in_default.is,
     )
 
-pub returns-in-Cell : goal.returns-in-Cell
-returns-in-Cell c =
+pub returns-in-Some : goal.returns-in-Some
+returns-in-Some c =
     let a = c.args in
     let s = c.send-sending in
     let n : c.sizes-sizes.result.cells ≡ (sizes a.family).cells = ap (λ (z : Sizes). z.cells) c.sizes-sizes.ensures in
     let t : c.is_set-set.result ≡ is_set (kview a.panel.segment) = c.is_set-set.ensures (held a.panel.segment.cells) in
     let sound = c.sound.ensures.so c.if-not-sound.false in (
       good sound (by_family a.family a.panel.segment a.wanted a.out.now _ _ _ _ n t s.ensures.0),
-      named_learns a.family a.panel a.wanted _ n s.result s.ensures.1 _ (record { segment = c.refreshed-then.result; character = a.panel.character }) c.in-Cell.is
+      named_learns a.family a.panel a.wanted _ n s.result s.ensures.1 _ (record { segment = c.refreshed-then.result; character = a.panel.character }) c.in-Some.is
           (λ f. c.refreshed-then.ensures f, refl),
     )

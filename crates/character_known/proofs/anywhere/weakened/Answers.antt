@@ -9,7 +9,7 @@ use Rattle.lamps.specs.Lamp.{wide2}
 use Rattle.character.specs.Command.{Defined}
 use Rattle.character.specs.Laws.{every}
 use Rattle.character_knowledge.specs.View.{points}
-use Rattle.fact.specs.declared.Pointing.TheVariants.{Unknown}
+use Rattle.fact.specs.declared.Single.TheVariants.{Unknown}
 use mathlib.Core.Bool.{Bool}
 use Rattle.rules.specs.Choice.{whether}
 use Rattle.character_known.specs.Weakened.{lasts, stays, same, same_place, port_met}
@@ -30,20 +30,20 @@ still : (c : Joined-last) → points c.if-last.cgram_at ≡ join (points (stays 
 still c = ap points (place c) ∙ same_place c.args.c.cgram_at c.args.c.column
 
 pub returns-in-Cgram : goal.returns-in-Cgram
-returns-in-Cgram c = rw c.in-Cgram.is (λ m. every _ (λ i k. same _) (λ i k. same _) (λ i k. same _) refl (c.both_pointing-cgram_at.ensures ∙ ap (λ s. join s (known c.in-Cgram.address.0)) (ap points (place (goal.at.returns-in-Cgram c).Joined-last))) refl refl (λ k. same _) (same _) (same _) (same _) refl)
+returns-in-Cgram c = rw c.in-Cgram.is (λ m. every _ (λ i k. same _) (λ i k. same _) (λ i k. same _) refl (c.both-cgram_at.ensures ∙ ap (λ s. join s (known c.in-Cgram.address.0)) (ap points (place (goal.at.returns-in-Cgram c).Joined-last))) refl refl (λ k. same _) (same _) (same _) (same _) refl)
 
 pub returns-in-Port : goal.returns-in-Port
 unfolding set_bits
 returns-in-Port c = rw c.in-Port.is (λ m. every _ (λ i k. same _) (λ i k. same _) (λ i k. same _) refl (still (goal.at.returns-in-Port c).Joined-last) refl refl (port_met c.args.c _ _ _ (c.code_of.ensures 2 wide2) c.meet_code-port.ensures m) (same _) (same _) (same _) refl)
 
 pub returns-in-Duty : goal.returns-in-Duty
-returns-in-Duty c = rw c.in-Duty.is (λ m. every _ (λ i k. same _) (λ i k. same _) (λ i k. same _) refl (still (goal.at.returns-in-Duty c).Joined-last) refl refl (λ k. same _) c.both_singles-duty.ensures (same _) (same _) refl)
+returns-in-Duty c = rw c.in-Duty.is (λ m. every _ (λ i k. same _) (λ i k. same _) (λ i k. same _) refl (still (goal.at.returns-in-Duty c).Joined-last) refl refl (λ k. same _) c.both-duty.ensures (same _) (same _) refl)
 
 pub returns-in-Digits : goal.returns-in-Digits
-returns-in-Digits c = rw c.in-Digits.is (λ m. every _ (λ i k. same _) (λ i k. same _) (λ i k. same _) refl (still (goal.at.returns-in-Digits c).Joined-last) refl refl (λ k. same _) (same _) c.both_singles-digits.ensures (same _) refl)
+returns-in-Digits c = rw c.in-Digits.is (λ m. every _ (λ i k. same _) (λ i k. same _) (λ i k. same _) refl (still (goal.at.returns-in-Digits c).Joined-last) refl refl (λ k. same _) (same _) c.both-digits.ensures (same _) refl)
 
 pub returns-in-Light : goal.returns-in-Light
-returns-in-Light c = rw c.in-Light.is (λ m. every _ (λ i k. same _) (λ i k. same _) (λ i k. same _) refl (still (goal.at.returns-in-Light c).Joined-last) refl refl (λ k. same _) (same _) (same _) (c.both_singles-lights.ensures ∙ ap (λ n. join (stands c.args.c.lights) (known n)) c.lights_number.ensures) refl)
+returns-in-Light c = rw c.in-Light.is (λ m. every _ (λ i k. same _) (λ i k. same _) (λ i k. same _) refl (still (goal.at.returns-in-Light c).Joined-last) refl refl (λ k. same _) (same _) (same _) (c.both-lights.ensures ∙ ap (λ n. join (stands c.args.c.lights) (known n)) c.from.ensures) refl)
 
 pub returns-in-Dcram : goal.returns-in-Dcram
 returns-in-Dcram c = rw c.in-Dcram.is (λ m. every _ (λ i k. same _) (λ i k. same _) (λ i k. same _) refl (still (goal.at.returns-in-Dcram c).Joined-last) refl refl (λ k. same _) (same _) (same _) (same _) refl)

@@ -10,9 +10,9 @@ use Rattle.character_known.specs.Open.{open_step}
 use Rattle.character_known.specs.Places.{as_changed, marked_at}
 use Rattle.character_known.proofs.bytes.to_mark.Goals as goal
 
-pub returns-in-At : goal.returns-in-At
-returns-in-At c = let a = c.args in
-    as_changed pairs c.marked_by-c.ensures refl (known_step adram_at (marked a.byte) a.c _ _ (λ m. ap points c.in-At.is) (marked_at a.byte a.c _))
+pub returns-in-Known : goal.returns-in-Known
+returns-in-Known c = let a = c.args in
+    as_changed pairs c.marked_by-c.ensures refl (known_step adram_at (marked a.byte) a.c _ _ (λ m. ap points c.in-Known.is) (marked_at a.byte a.c _))
 
 pub returns-in-Unknown : goal.returns-in-Unknown
 returns-in-Unknown c = open_step c.args.byte pairs (ap points c.in-Unknown.is)

@@ -10,9 +10,9 @@ use Rattle.character_known.specs.Open.{open_step}
 use Rattle.character_known.specs.Places.{as_changed, shown_at}
 use Rattle.character_known.proofs.bytes.to_show.Goals as goal
 
-pub returns-in-At : goal.returns-in-At
-returns-in-At c = let a = c.args in
-    as_changed text c.shown_by-c.ensures refl (known_step dcram_at (shown a.byte) a.c _ _ (λ m. ap points c.in-At.is) (shown_at a.byte a.c _))
+pub returns-in-Known : goal.returns-in-Known
+returns-in-Known c = let a = c.args in
+    as_changed text c.shown_by-c.ensures refl (known_step dcram_at (shown a.byte) a.c _ _ (λ m. ap points c.in-Known.is) (shown_at a.byte a.c _))
 
 pub returns-in-Unknown : goal.returns-in-Unknown
 returns-in-Unknown c = open_step c.args.byte text (ap points c.in-Unknown.is)

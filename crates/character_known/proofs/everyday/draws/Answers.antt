@@ -9,12 +9,12 @@ use Rattle.character_knowledge.specs.View.{points}
 use Rattle.character_known.proofs.everyday.draws.Goals as goal
 
 pub returns-then-number-lt5 : goal.returns-then-number-lt5
-returns-then-number-lt5 c = let n = c.in-At.character.0 in
-    let k = c.in-Known.number in
+returns-then-number-lt5 c = let n = c.in-Known.character.0 in
+    let k = c.in-Known-column.number in
     let e : n ≡ (n * 5 + k) / 5 = omega arith in
     let f : k ≡ (n * 5 + k) % 5 = omega arith in
     record {
       here = c.requires;
-      there = (ap points c.in-At.is ∙ ap known e, ap stands c.in-Known.is ∙ ap known f);
+      there = (ap points c.in-Known.is ∙ ap known e, ap stands c.in-Known-column.is ∙ ap known f);
       inside = omega arith;
     }

@@ -8,14 +8,8 @@ use Rattle.character.specs.Laws.{every, port_set}
 use Rattle.character.specs.Fact.{dcram, cgram, adram, dcram_at, cgram_at, adram_at, column, port, duty, digits, lights, position}
 use Rattle.character_machine.proofs.commanded.commanded.Goals as goal
 
-pub returns-in-Dcram : goal.returns-in-Dcram
-returns-in-Dcram c = rw c.in-Dcram.is (let h = c.at.ensures in every _ (λ i k. h (dcram i k)) (λ i k. h (cgram i k)) (λ i k. h (adram i k)) (h dcram_at) (h cgram_at) (h adram_at) (h column) (λ k. h (port k)) (h duty) (h digits) (h lights) (h position))
-
 pub returns-in-Cgram : goal.returns-in-Cgram
 returns-in-Cgram c = rw c.in-Cgram.is (let h = c.at-in-Cgram.ensures in every _ (λ i k. h (dcram i k)) (λ i k. h (cgram i k)) (λ i k. h (adram i k)) (h dcram_at) (h cgram_at) (h adram_at) (h column) (λ k. h (port k)) (h duty) (h digits) (h lights) (h position))
-
-pub returns-in-Adram : goal.returns-in-Adram
-returns-in-Adram c = rw c.in-Adram.is (let h = c.at-in-Adram.ensures in every _ (λ i k. h (dcram i k)) (λ i k. h (cgram i k)) (λ i k. h (adram i k)) (h dcram_at) (h cgram_at) (h adram_at) (h column) (λ k. h (port k)) (h duty) (h digits) (h lights) (h position))
 
 pub returns-in-Port : goal.returns-in-Port
 unfolding set_bits
@@ -25,18 +19,3 @@ returns-in-Port c =
     rw c.in-Port.is
     (every _ (λ i k. h (dcram i k)) (λ i k. h (cgram i k)) (λ i k. h (adram i k)) (h dcram_at) (h cgram_at) (h adram_at) (h column)
     (λ k. h (port k) ∙ port_set a.chip (then Ignoring) _ _ k refl refl) (h duty) (h digits) (h lights) (h position))
-
-pub returns-in-Duty : goal.returns-in-Duty
-returns-in-Duty c = rw c.in-Duty.is (let h = c.at-in-Duty.ensures in every _ (λ i k. h (dcram i k)) (λ i k. h (cgram i k)) (λ i k. h (adram i k)) (h dcram_at) (h cgram_at) (h adram_at) (h column) (λ k. h (port k)) (h duty) (h digits) (h lights) (h position))
-
-pub returns-in-Digits : goal.returns-in-Digits
-returns-in-Digits c = rw c.in-Digits.is (let h = c.at-in-Digits.ensures in every _ (λ i k. h (dcram i k)) (λ i k. h (cgram i k)) (λ i k. h (adram i k)) (h dcram_at) (h cgram_at) (h adram_at) (h column) (λ k. h (port k)) (h duty) (h digits) (h lights) (h position))
-
-pub returns-in-Light : goal.returns-in-Light
-returns-in-Light c = rw c.in-Light.is (let h = c.at-in-Light.ensures in every _ (λ i k. h (dcram i k)) (λ i k. h (cgram i k)) (λ i k. h (adram i k)) (h dcram_at) (h cgram_at) (h adram_at) (h column) (λ k. h (port k)) (h duty) (h digits) (h lights) (h position))
-
-pub returns-in-Nothing : goal.returns-in-Nothing
-returns-in-Nothing c = rw c.in-Nothing.is c.at-in-Nothing.ensures
-
-pub returns-in-Undefined : goal.returns-in-Undefined
-returns-in-Undefined c = rw c.in-Undefined.is c.left_open.ensures

@@ -10,9 +10,9 @@ returns c =
     both_tell refl
     (both_tell refl
     (both_tell refl
-    (both_tell refl c.pointing_sound.ensures c.pointing_sound-2.ensures)
-    (both_tell refl c.pointing_sound-3.ensures c.within.ensures.0))
+    (both_tell refl c.within.ensures.0 c.within-2.ensures.0)
+    (both_tell refl c.within-3.ensures.0 c.within-4.ensures.0))
     (both_tell refl
-    (both_tell refl (both_tell refl (c.lamps_sound.ensures 2 wide2) c.within-2.ensures.0) c.within-3.ensures.0)
-    c.within-4.ensures.0))
-    c.within-5.ensures.0
+    (both_tell refl (both_tell refl (c.lamps_sound.ensures 2 wide2) c.within-5.ensures.0) c.within-6.ensures.0)
+    c.within-7.ensures.0))
+    c.within-8.ensures.0

@@ -1,26 +1,19 @@
 -- `lamp_tests::rows::all_sound` meets its contract: the number that takes in the wrong bits of the codes passed is 0 exactly where all of them are sound. Assumes nothing.
 use native.Mathlib.Omega.{arith}
-use mathlib.Core.Path.{◌≡◌, refl, sym}
+use Prim.Native.Nat.{ℕ}
+use lib.Dec.{eqb}
+use Rattle.std.proofs.Common.{subst}
+use Rattle.std.proofs.lemmas.List.{get_or-take, length-take-le}
+use Rattle.rules.specs.Tests.{Tests}
+use Rattle.knowing.specs.Standing.{Within}
+use Rattle.lamps.specs.View.{shown}
 use Rattle.lamps.specs.Row.{lamps_more}
 use Rattle.lamp_tests.proofs.rows.all_sound.Goals as goal
 
-pub loop-i-init : goal.loop-i-init
-loop-i-init c = (omega arith, λ w W. record { so = λ e j k h. absurd (omega arith); back = λ _. refl })
-
-pub bounds-codes-i : goal.bounds-codes-i
-bounds-codes-i c = omega (arith, c.requires)
-
-pub overflow_add-i : goal.overflow_add-i
-overflow_add-i c = omega arith
-
-pub loop-i-smaller : goal.loop-i-smaller
-loop-i-smaller c = omega arith
-
-pub loop-i-preserved : goal.loop-i-preserved
-loop-i-preserved c = let l = c.loop-i in
-    (omega arith, λ w W. lamps_more w c.args.codes.now l.i l.wrong _ (l.invariant.1 w W) (c.wrong_bits-wrong.ensures w W))
-
-pub returns : goal.returns
-returns c =
-    let e : c.loop-i.i ≡ c.args.count = omega arith in
-    rw (sym e) c.loop-i.invariant.1
+pub loop-code-preserved : goal.loop-code-preserved
+loop-code-preserved c =
+    let l = c.loop-code in
+    let a = c.args in
+    let e = get_or-take a.count a.codes.now l.code-index 0 (omega (arith, length-take-le a.count a.codes.now c.requires)) in
+    λ w W. lamps_more w a.codes.now l.code-index l.wrong _ (l.invariant w W)
+    (subst (λ (code : ℕ). Tests (eqb c.wrong_bits-wrong.result 0) ((k : ℕ) → Within 2 (shown w code k))) e (c.wrong_bits-wrong.ensures w W))

@@ -4,19 +4,10 @@ use borrow.Author.Tests.{eqb-true}
 use Rattle.lamps.specs.Row.{noughts_more, noughts_held}
 use Rattle.lamp_tests.proofs.rows.none_known.Goals as goal
 
-pub loop-i-init : goal.loop-i-init
-loop-i-init c = (omega arith, λ e j h. absurd (omega arith))
-
-pub overflow_add-i : goal.overflow_add-i
-overflow_add-i c = omega arith
-
-pub loop-i-smaller : goal.loop-i-smaller
-loop-i-smaller c = omega arith
-
-pub loop-i-preserved : goal.loop-i-preserved
-loop-i-preserved c = let l = c.loop-i in
-    (omega arith, noughts_more c.args.codes.now l.i l.any l.invariant.1)
+pub loop-code-preserved : goal.loop-code-preserved
+loop-code-preserved c = let l = c.loop-code in
+    noughts_more c.args.codes.now l.code-index l.any l.invariant
 
 pub returns : goal.returns
-returns c = let l = c.loop-i in
-    λ e w. noughts_held w c.args.codes.now l.i (l.invariant.1 (eqb-true l.any 0 e)) (omega arith)
+returns c = let l = c.loop-code in
+    λ e w. noughts_held w c.args.codes.now l.code-index (l.invariant (eqb-true l.any 0 e)) (omega arith)

@@ -1,7 +1,7 @@
 -- `lines::rows::line` meets its contract: the name, the colon, the values and the end stand one behind the other.
 -- Assumes nothing.
-use Rattle.writing.specs.Laws.{writes_then}
+use Rattle.writing.specs.Wrote.{wrote_then}
 use Rattle.lines.proofs.rows.line.Goals as goal
 
 pub returns : goal.returns
-returns c = writes_then c.words-named.ensures (writes_then c.put-begun.ensures (writes_then c.values-told.ensures c.put.ensures))
+returns c = wrote_then c.words.ensures (wrote_then c.put.ensures (wrote_then c.values.ensures c.put-2.ensures))

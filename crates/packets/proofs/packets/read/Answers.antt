@@ -4,11 +4,10 @@ use native.Mathlib.Omega.{arith}
 use mathlib.Core.Path.{◌≡◌, refl, sym, ap, ◌∙◌, subst⁻¹}
 use mathlib.Core.List.{List, ◌++◌}
 use Prim.Native.Nat.{ℕ, ◌+◌}
-use lib.ListN.{length, get_or}
+use lib.ListN.{length}
 use Rattle.terms.specs.declared.Part.{Part}
 use Rattle.feed.specs.declared.Feed.{Feed}
 use Rattle.feed.specs.Feed.{Good}
-use Rattle.recording.specs.Start.{body_four}
 use Rattle.account.specs.Bytes.{bytes_of}
 use Rattle.account.specs.Begun.{Begun, begun}
 use Rattle.account.specs.Laws.{of_none}
@@ -20,29 +19,25 @@ use borrow.Author.Rules.{rules}
 use Rattle.packets.proofs.packets.read.Goals as goal
 
 -- Where something is unfinished, a record was begun.
-was_begun : (p : Part) (f : Feed) (n : ℕ) → Good p f → n ≡ length (bytes_of f.unfinished) → ¬ (n ≡ 0) → Begun p (bytes_of f.unfinished) f.total
-was_begun p f n good count some = begun p (bytes_of f.unfinished) f.total good.cut_off (omega (arith, count, some)) good.counted
+was_begun : (p : Part) (f : Feed) (n : ℕ) → Good p f → n ≡ length (bytes_of f.account.unfinished) → ¬ (n ≡ 0) → Begun p (bytes_of f.account.unfinished) f.account.total
+was_begun p f n good count some = begun p (bytes_of f.account.unfinished) f.account.total good.cut_off (omega (arith, count, some)) good.counted
 
 pub returns-then-count-eq0 : goal.returns-then-count-eq0
 returns-then-count-eq0 c =
     let a = c.args in
     let none = sym c.count_of-count.ensures ∙ c.if-count-eq0.true in
-    let e = of_none (bytes_of a.feed.unfinished) none in
+    let e = of_none (bytes_of a.feed.account.unfinished) none in
     row_as a.part a.feed.panel (omega (arith, none)) refl (ap (λ (u : List ℕ). u ++ a.packet.now) e) c.read_from.ensures
 
 pub overflow_sub-from : goal.overflow_sub-from
 overflow_sub-from c = let g = was_begun c.args.part c.args.feed _ c.requires.0 c.count_of-count.ensures c.if-count-eq0.false in search rules
 
-pub put_off-requires : goal.put_off-requires
-put_off-requires c = let a = c.args in
-    (omega (arith, body_four (get_or (bytes_of a.feed.unfinished) 0 0), c.count_of-count.ensures, c.whole_of.ensures, c.if-packet-from.true), c.requires.1)
-
 pub returns-then-packet-from : goal.returns-then-packet-from
 returns-then-packet-from c =
     let a = c.args in
     let f = a.feed in
-    subst⁻¹ (λ (x : Taken). ReadsWith a.part f.panel f.unfinished f.total a.packet.now x) c.with_panel.ensures
-    (short_row a.part f.panel f.total (f.total + length a.packet.now) (bytes_of f.unfinished) a.packet.now (was_begun c.args.part c.args.feed _ c.requires.0 c.count_of-count.ensures c.if-count-eq0.false) c.put_off.result
+    subst⁻¹ (λ (x : Taken). ReadsWith a.part f.panel f.account.unfinished f.account.total a.packet.now x) c.with_panel.ensures
+    (short_row a.part f.panel f.account.total (f.account.total + length a.packet.now) (bytes_of f.account.unfinished) a.packet.now (was_begun c.args.part c.args.feed _ c.requires.0 c.count_of-count.ensures c.if-count-eq0.false) c.put_off.result
     (omega (arith, c.count_of-count.ensures, c.whole_of.ensures, c.if-packet-from.true)) c.put_off.ensures)
 
 pub read_begun-requires : goal.read_begun-requires

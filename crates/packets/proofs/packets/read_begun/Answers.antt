@@ -6,7 +6,7 @@ use mathlib.Core.Path.{◌≡◌, sym, ap, ◌∙◌, subst, subst⁻¹}
 use mathlib.Core.List.{List, ◌++◌}
 use Rattle.terms.specs.declared.Part.{Part}
 use Rattle.panel.specs.declared.Panel.{Panel}
-use Rattle.packets.specs.declared.walked.PanelWalked.{PanelWalked}
+use Rattle.walks.specs.declared.Walked.{Walked}
 use lib.ListN.{length, take, get_or, length-append}
 use lib.Seq.{length-take-le}
 use Rattle.recording.specs.Start.{body_four}
@@ -31,42 +31,36 @@ own u l row n same count long =
     ap (take n) same ∙ ap (λ (i : ℕ). take i (first_five (u ++ l))) count ∙ first_take (u ++ l) (whole_of u) (omega (arith, body_four (get_or u 0 0))) long
 
 -- What the walk promises, of the record's own bytes.
-walks : (p : Part) (k : Panel) (w : PanelWalked) (u l row : List ℕ) (n : ℕ) → row ≡ first_five (u ++ l) → n ≡ whole_of u → whole_of u ≤ length (u ++ l)
+walks : (p : Part) (k : Panel) (w : Walked Panel) (u l row : List ℕ) (n : ℕ) → row ≡ first_five (u ++ l) → n ≡ whole_of u → whole_of u ≤ length (u ++ l)
     → Walks p k (take n row) w → Walks p k (take (whole_of u) (u ++ l)) w
 walks p k w u l row n same count long h = subst (λ (m : List ℕ). Walks p k m w) (own u l row n same count long) h
 
-pub slice_bounds-row-end : goal.slice_bounds-row-end
-slice_bounds-row-end c = within (bytes_of c.args.unfinished) c.args.packet.now _ _ c.joined-row.ensures c.whole_of-whole.ensures
-
-pub slice_bounds-panel_walk-end : goal.slice_bounds-panel_walk-end
-slice_bounds-panel_walk-end c = sym (length-take-le _ _ (within (bytes_of c.args.unfinished) c.args.packet.now _ _ c.joined-row.ensures c.whole_of-whole.ensures))
-
 pub begun_refused-requires : goal.begun_refused-requires
 begun_refused-requires c =
-    let u = bytes_of c.args.unfinished in
+    let u = bytes_of c.args.account.unfinished in
     let l = c.args.packet.now in
     let long = come u l c.args.from c.requires.2 c.requires.3 in
     let w = walks c.args.part c.args.panel c.panel_walk-walked.result u l c.joined-row.result c.whole_of-whole.result c.joined-row.ensures c.whole_of-whole.ensures long c.panel_walk-walked.ensures in
-    let i = stops_within c.args.part (take (whole_of u) (u ++ l)) _ c.in-Stops.at (sym w.ended ∙ c.in-Stops.is) in
+    let i = stops_within c.args.part (take (whole_of u) (u ++ l)) c.in-Err.stop.refusal c.in-Err.stop.at (sym w.ended ∙ c.in-Err.is) in
     (c.requires.0.counted, omega (arith, i, length-take-le (whole_of u) (u ++ l) long, body_four (get_or u 0 0)))
 
-pub returns-in-Done : goal.returns-in-Done
-returns-in-Done c =
+pub returns-in-Ok : goal.returns-in-Ok
+returns-in-Ok c =
     let a = c.args in
-    let u = bytes_of a.unfinished in
+    let u = bytes_of a.account.unfinished in
     let l = a.packet.now in
     let long = come u l a.from c.requires.2 c.requires.3 in
     let w = walks a.part a.panel c.panel_walk-walked.result u l c.joined-row.result c.whole_of-whole.result c.joined-row.ensures c.whole_of-whole.ensures long c.panel_walk-walked.ensures in
-    joined_done a.part a.panel a.total (a.total + length l) u l c.requires.0 c.panel_walk-walked.result.panel a.from c.requires.2 c.requires.3
-    w.known w.kept c.read_from.result (sym c.in-Done.is ∙ w.ended) c.read_from.ensures
+    joined_done a.part a.panel a.account.total (a.account.total + length l) u l c.requires.0 c.panel_walk-walked.result.k a.from c.requires.2 c.requires.3
+    w.known w.kept c.read_from.result (sym c.in-Ok.is ∙ w.ended) c.read_from.ensures
 
-pub returns-in-Stops : goal.returns-in-Stops
-returns-in-Stops c =
+pub returns-in-Err : goal.returns-in-Err
+returns-in-Err c =
     let a = c.args in
-    let u = bytes_of a.unfinished in
+    let u = bytes_of a.account.unfinished in
     let l = a.packet.now in
     let long = come u l a.from c.requires.2 c.requires.3 in
     let w = walks a.part a.panel c.panel_walk-walked.result u l c.joined-row.result c.whole_of-whole.result c.joined-row.ensures c.whole_of-whole.ensures long c.panel_walk-walked.ensures in
-    subst⁻¹ (λ (x : Taken). ReadsWith a.part a.panel a.unfinished a.total l x) c.with_panel.ensures
-    (joined_halts a.part a.panel a.total (a.total + length l) u l c.requires.0 c.panel_walk-walked.result.panel a.from c.requires.2 c.requires.3
-    w.known w.kept c.in-Stops.refusal c.in-Stops.at c.begun_refused.result (sym c.in-Stops.is ∙ w.ended) c.begun_refused.ensures)
+    subst⁻¹ (λ (x : Taken). ReadsWith a.part a.panel a.account.unfinished a.account.total l x) c.with_panel.ensures
+    (joined_halts a.part a.panel a.account.total (a.account.total + length l) u l c.requires.0 c.panel_walk-walked.result.k a.from c.requires.2 c.requires.3
+    w.known w.kept c.in-Err.stop.refusal c.in-Err.stop.at c.begun_refused.result (sym c.in-Err.is ∙ w.ended) c.begun_refused.ensures)

@@ -1,28 +1,23 @@
 -- `packets::records::read_from` meets its contract: the walk tells how the records end and what is known then, and the account is settled by that.
 -- Assumes nothing.
 use Prim.Native.Nat.{ℕ, ◌+◌, ◌-◌}
-use mathlib.Core.Path.{sym, subst, subst⁻¹}
+use mathlib.Core.Path.{subst, subst⁻¹}
 use mathlib.Core.List.{List}
 use lib.ListN.{length, take, drop}
 use Rattle.terms.specs.declared.Part.{Part}
 use Rattle.panel.specs.declared.Panel.{Panel}
 use Rattle.recording.specs.Laws.{part_from}
 use Rattle.packets.specs.Walks.{Walks}
-use Rattle.packets.specs.declared.walked.PanelWalked.{PanelWalked}
+use Rattle.walks.specs.declared.Walked.{Walked}
 use Rattle.packets.specs.declared.records.Taken.{Taken}
 use Rattle.packets.specs.Takes.{ReadsRow}
 use Rattle.packets.specs.Joined.{row_ends}
 use Rattle.packets.proofs.records.read_from.Goals as goal
 
 -- What the walk promises, of the bytes from the place on.
-walks : (p : Part) (k : Panel) (packet : List ℕ) (from : ℕ) (w : PanelWalked) → Walks p k (take (length packet - from) (drop from packet)) w
+walks : (p : Part) (k : Panel) (packet : List ℕ) (from : ℕ) (w : Walked Panel) → Walks p k (take (length packet - from) (drop from packet)) w
     → Walks p k (drop from packet) w
 walks p k packet from w h = subst (λ (m : List ℕ). Walks p k m w) (part_from from packet) h
-
-pub settled-requires : goal.settled-requires
-settled-requires c =
-    let w = walks c.args.part c.args.panel c.args.packet.now c.args.from c.panel_walk-walked.result c.panel_walk-walked.ensures in
-    (c.requires.0, c.requires.1, (c.args.part, sym w.ended))
 
 pub returns : goal.returns
 returns c =
@@ -30,5 +25,5 @@ returns c =
     let l = drop a.from a.packet.now in
     let w = walks a.part a.panel a.packet.now a.from c.panel_walk-walked.result c.panel_walk-walked.ensures in
     subst⁻¹ (λ (x : Taken). ReadsRow a.part a.panel (a.total + a.from) a.total (a.total + length a.packet.now) l x) c.with_panel.ensures
-    (row_ends a.part a.panel c.panel_walk-walked.result.panel (a.total + a.from) a.total (a.total + length a.packet.now) l c.settled.result _
+    (row_ends a.part a.panel c.panel_walk-walked.result.k (a.total + a.from) a.total (a.total + length a.packet.now) l c.settled.result _
     w.known w.kept w.ended c.settled.ensures)

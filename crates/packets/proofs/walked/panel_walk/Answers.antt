@@ -4,13 +4,8 @@ use Rattle.parts.specs.Kind.{part_is}
 use Rattle.packets.specs.Walks.{Walks, by_family}
 use Rattle.packets.proofs.walked.panel_walk.Goals as goal
 
-pub returns-in-Character : goal.returns-in-Character
-returns-in-Character c =
-    let a = c.args in
-    subst⁻¹ (λ p. Walks p a.panel a.bytes.now c.character_walked.result) (c.kind_of.ensures ∙ ap part_is c.in-Character.is) c.character_walked.ensures
-
 pub returns-in-Segment : goal.returns-in-Segment
 returns-in-Segment c =
     let a = c.args in
-    let e = c.kind_of.ensures ∙ ap part_is c.in-Segment.is in
+    let e = c.from.ensures ∙ ap part_is c.in-Segment.is in
     subst⁻¹ (λ p. Walks p a.panel a.bytes.now c.segment_walked.result) e (by_family _ a.panel a.bytes.now c.segment_walked.result (rw e at c.segment_walked.ensures))

@@ -6,14 +6,12 @@ use Rattle.terms.specs.Part.{part_of}
 use Rattle.listing.specs.Memory.{memory}
 use Rattle.page.specs.Page.{done_at}
 use Rattle.refusals.specs.Refusal.{refused_length}
-use Rattle.writing.specs.Laws.{writes_then}
-use Rattle.writing.specs.Prints.{prints, prints_nothing}
+use borrow.Author.Rules.{rules}
+use Rattle.writing.specs.Wrote.{wrote_then, wrote_back}
+use Rattle.writing.specs.Prints.{prints}
 use Rattle.page.specs.Lengths.{done_length}
 use Rattle.page.specs.Laws.{page_done, page_refused}
 use Rattle.page.proofs.pages.write_page.Goals as goal
-
-pub returns-then-out-lt-ROOM : goal.returns-then-out-lt-ROOM
-returns-then-out-lt-ROOM c = prints_nothing (omega (arith, c.if-out-lt-ROOM.true))
 
 pub returns-then-told-eq0 : goal.returns-then-told-eq0
 returns-then-told-eq0 c =
@@ -21,11 +19,11 @@ returns-then-told-eq0 c =
     let t = c.told_of-told in
     let m = c.memory.ensures in
     rw (page_done (part_of a.part) a.answer a.panel (omega (arith, t.ensures.0, c.if-told-eq0.true)) t.ensures.1)
-    (prints (omega (arith, c.if-out-lt-ROOM.false)) (omega (arith, length-append (done_at t.result.1.0) (memory (part_of a.part) a.panel), done_length t.result.1.0, m.1)) (writes_then c.done-next.ensures m.0))
+    (prints (omega (arith, c.if-out-lt-ROOM.false)) (omega (arith, length-append (done_at t.result.place.0) (memory (part_of a.part) a.panel), done_length t.result.place.0, m.1)) (wrote_back (wrote_then c.done.ensures m.0) (search rules)))
 
 pub returns : goal.returns
 returns c =
     let a = c.args in
     let t = c.told_of-told in
     rw (page_refused (part_of a.part) a.answer a.panel (λ z. omega (arith, c.if-told-eq0.false)) t.ensures.0 t.ensures.1)
-    (prints (omega (arith, c.if-out-lt-ROOM.false)) (omega (arith, refused_length t.result.0 t.result.1.0)) c.refused.ensures)
+    (prints (omega (arith, c.if-out-lt-ROOM.false)) (omega (arith, refused_length t.result.number t.result.place.0)) (wrote_back c.refused.ensures (search rules)))

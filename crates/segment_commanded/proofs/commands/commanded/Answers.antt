@@ -5,20 +5,8 @@ use Rattle.segment.specs.Laws.{every}
 use Rattle.segment.specs.Fact.{cell, address, data_mode, stepping, mode, dimming, display, led, key, switches, read_count, position}
 use Rattle.segment_commanded.proofs.commands.commanded.Goals as goal
 
-pub returns-in-Mode : goal.returns-in-Mode
-returns-in-Mode c = rw c.in-Mode.is c.to_mode.ensures
-
-pub returns-in-Test : goal.returns-in-Test
-returns-in-Test c = rw c.in-Test.is c.in_test.ensures
-
 pub returns-in-Setting : goal.returns-in-Setting
 returns-in-Setting c = rw c.in-Setting.is (let h = c.at.ensures in every _ (λ i k. h (cell i k)) (h address) (h data_mode) (h stepping) (h mode) (h dimming) (h display) (λ k. h (led k)) (λ i. h (key i)) (h switches) (h read_count) (h position))
 
-pub returns-in-AnySetting : goal.returns-in-AnySetting
-returns-in-AnySetting c = rw c.in-AnySetting.is c.set_to_any.ensures
-
 pub returns-in-Control : goal.returns-in-Control
 returns-in-Control c = rw c.in-Control.is (let h = c.at-in-Control.ensures in every _ (λ i k. h (cell i k)) (h address) (h data_mode) (h stepping) (h mode) (h dimming) (h display) (λ k. h (led k)) (λ i. h (key i)) (h switches) (h read_count) (h position))
-
-pub returns-in-Start : goal.returns-in-Start
-returns-in-Start c = rw c.in-Start.is (let h = c.at-in-Start.ensures in every _ (λ i k. h (cell i k)) (h address) (h data_mode) (h stepping) (h mode) (h dimming) (h display) (λ k. h (led k)) (λ i. h (key i)) (h switches) (h read_count) (h position))

@@ -13,6 +13,6 @@ use Rattle.segment_known.proofs.bytes.perhaps_written.Goals as goal
 pub returns : goal.returns
 returns c = let a = c.args in
     let s = sizes a.family in
-    λ q. subst⁻¹ (λ (x : Change). Steps s (look data_mode (written s a.byte)) (placed a.c q) (record { control = writing (placed a.c q) c.both_pointing.result c.meet_code.result; change = x })) c.loosened.ensures
-    (perhaps_written a.family (placed a.c q) a.byte c.stored_by-stored.result _ _ c.stored_by-stored.ensures c.requires c.both_pointing.ensures
+    λ q. subst⁻¹ (λ (x : Change). Steps s (look data_mode (written s a.byte)) (placed a.c q) (record { control = writing (placed a.c q) c.both.result c.meet_code.result; change = x })) c.loosened.ensures
+    (perhaps_written a.family (placed a.c q) a.byte c.stored_by-stored.result _ _ c.stored_by-stored.ensures c.requires c.both.ensures
     (λ k. met_led a.byte _ _ _ (c.code_of.ensures 4 wide4) c.meet_code.ensures k))

@@ -2,8 +2,10 @@
 use Prim.Native.Nat.{ℕ}
 use native.Mathlib.Omega.{arith}
 use mathlib.Core.Path.{ap, ◌∙◌}
-use Rattle.segment_knowledge.specs.declared.Pointing.{Pointing}
-use Rattle.segment_knowledge.specs.declared.Pointing.TheVariants.{At}
+use Rattle.fact.specs.declared.Single.{Single}
+use Rattle.fact.specs.declared.Single.TheVariants.{Known}
+use Rattle.segment.specs.declared.Pointer.{Pointer}
+use Rattle.segment.specs.declared.Pointer.TheVariants.{At}
 use Rattle.segment_known.specs.Writes.{pointing}
 use Rattle.segment_known.specs.Everyday.{ring_within, ring_round}
 use Rattle.segment.specs.Family.{sizes}
@@ -22,7 +24,7 @@ returns c =
     let a = c.args in
     let s = sizes a.family in
     let is = c.sizes-sizes.ensures in
-    let to : ℕ → Pointing = λ n. At (record { 0 = n }) in
+    let to : ℕ → Single Pointer = λ n. Known (At (record { 0 = n })) in
     ap (pointing a.c) (elim c.if-next-sizes.branch [
       | then-next-sizes w ↦ ap to w.to-is ∙ ring_within s _ (rw is at w.if-next-sizes.true)
       | else-next-sizes w ↦ ap to w.to-is ∙ ring_round s _ (rw is at w.if-next-sizes.false)

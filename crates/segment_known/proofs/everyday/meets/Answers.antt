@@ -4,8 +4,8 @@ use Rattle.segment_known.proofs.everyday.meets.Goals as goal
 
 pub returns-in-Pt6312 : goal.returns-in-Pt6312
 unfolding sizes
-returns-in-Pt6312 c = rw c.in-Pt6312.is c.meet_run.ensures
+returns-in-Pt6312 c = rw c.in-Pt6312.is c.meet.ensures
 
 pub returns-in-Pt6315 : goal.returns-in-Pt6315
 unfolding sizes
-returns-in-Pt6315 c = rw c.in-Pt6315.is c.meet_run-in-Pt6315.ensures
+returns-in-Pt6315 c = rw c.in-Pt6315.is c.meet-in-Pt6315.ensures

@@ -13,20 +13,20 @@ returns c =
     let next = c.data_in-next in
     let perhaps = Perhaps a.family a.byte a.c c.requires next.result next.ensures in
     let change = c.loosened-change in
-    let to = c.both_pointing-address in
+    let to = c.both-address in
     let light = c.both_lamps-led in
     let lit = light.ensures 4 in
     elim c.match-command.branch [
       | in-Mode w ↦ perhaps_as perhaps a.c w.address-is w.led-is w.change-is w.data-is w.stepping-is w.mode-is w.dimming-is w.display-is w.count-is
-          (perhaps_mode a.family a.byte a.c c.requires next.result next.ensures change.result to.result light.result change.ensures to.ensures lit w.in-Mode.code w.display_in-off.result _ _ (sym w.in-Mode.is ∙ is) w.display_in-off.ensures w.perhaps-mode.ensures w.both_singles-display.ensures)
+          (perhaps_mode a.family a.byte a.c c.requires next.result next.ensures change.result to.result light.result change.ensures to.ensures lit w.in-Mode.code w.display_in-off.result _ _ (sym w.in-Mode.is ∙ is) w.display_in-off.ensures w.perhaps-mode.ensures w.both-display.ensures)
       | in-Test w ↦ perhaps_as perhaps a.c w.address-is w.led-is w.change-is w.data-is w.stepping-is w.mode-is w.dimming-is w.display-is w.count-is
           (perhaps_test a.family a.byte a.c c.requires next.result next.ensures (sym w.in-Test.is ∙ is))
       | in-Setting w ↦ perhaps_as perhaps a.c w.address-is w.led-is w.change-is w.data-is w.stepping-is w.mode-is w.dimming-is w.display-is w.count-is
-          (perhaps_setting a.family a.byte a.c c.requires next.result next.ensures change.result to.result light.result change.ensures to.ensures lit w.in-Setting.kind w.in-Setting.step _ _ _ (sym w.in-Setting.is ∙ is) (w.perhaps-data.ensures ∙ ap (join _) (ap known w.data_number.ensures)) (w.perhaps-stepping.ensures ∙ ap (join _) (ap known w.step_number.ensures)) w.perhaps-count.ensures)
+          (perhaps_setting a.family a.byte a.c c.requires next.result next.ensures change.result to.result light.result change.ensures to.ensures lit w.in-Setting.kind w.in-Setting.step _ _ _ (sym w.in-Setting.is ∙ is) (w.perhaps-data.ensures ∙ ap (join _) (ap known w.from.ensures)) (w.perhaps-stepping.ensures ∙ ap (join _) (ap known w.from-in-Setting.ensures)) w.perhaps-count.ensures)
       | in-AnySetting w ↦ perhaps_as perhaps a.c w.address-is w.led-is w.change-is w.data-is w.stepping-is w.mode-is w.dimming-is w.display-is w.count-is
-          (perhaps_any a.family a.byte a.c c.requires next.result next.ensures change.result to.result light.result change.ensures to.ensures lit w.in-AnySetting.step _ _ (sym w.in-AnySetting.is ∙ is) (w.perhaps-stepping-in-AnySetting.ensures ∙ ap (join _) (ap known w.step_number-in-AnySetting.ensures)) w.perhaps-count-in-AnySetting.ensures)
+          (perhaps_any a.family a.byte a.c c.requires next.result next.ensures change.result to.result light.result change.ensures to.ensures lit w.in-AnySetting.step _ _ (sym w.in-AnySetting.is ∙ is) (w.perhaps-stepping-in-AnySetting.ensures ∙ ap (join _) (ap known w.from-in-AnySetting.ensures)) w.perhaps-count-in-AnySetting.ensures)
       | in-Control w ↦ perhaps_as perhaps a.c w.address-is w.led-is w.change-is w.data-is w.stepping-is w.mode-is w.dimming-is w.display-is w.count-is
-          (perhaps_control a.family a.byte a.c c.requires next.result next.ensures change.result to.result light.result change.ensures to.ensures lit w.in-Control.level w.in-Control.shown _ _ (sym w.in-Control.is ∙ is) w.perhaps-dimming.ensures (w.perhaps-display.ensures ∙ ap (join _) (ap known w.display_number.ensures)))
+          (perhaps_control a.family a.byte a.c c.requires next.result next.ensures change.result to.result light.result change.ensures to.ensures lit w.in-Control.level w.in-Control.shown _ _ (sym w.in-Control.is ∙ is) w.perhaps-dimming.ensures (w.perhaps-display.ensures ∙ ap (join _) (ap known w.from-in-Control.ensures)))
       | in-Start w ↦ perhaps_as perhaps a.c w.address-is w.led-is w.change-is w.data-is w.stepping-is w.mode-is w.dimming-is w.display-is w.count-is
-          (perhaps_start a.family a.byte a.c c.requires next.result next.ensures change.result to.result light.result change.ensures to.ensures lit w.in-Start.start _ (sym w.in-Start.is ∙ is) (w.both_pointing-address-in-Start.ensures ∙ ap (join _) w.known_pointing.ensures))
+          (perhaps_start a.family a.byte a.c c.requires next.result next.ensures change.result to.result light.result change.ensures to.ensures lit w.in-Start.start _ (sym w.in-Start.is ∙ is) w.both-address-in-Start.ensures)
     ]

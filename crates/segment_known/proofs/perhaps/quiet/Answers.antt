@@ -2,7 +2,6 @@
 use Rattle.std.proofs.Common.{arith}
 use Prim.Native.Nat.{ℕ}
 use mathlib.Core.Path.{refl, sym, ap, ◌∙◌}
-use mathlib.Core.Bool.{true≢false}
 use borrow.Author.Tests.{eqb-true}
 use Rattle.knowing.specs.Standing.{known}
 use Rattle.knowing.specs.Join.{join_itself, join_not}
@@ -14,12 +13,6 @@ use Rattle.segment_knowledge.specs.View.{points}
 use Rattle.segment_known.specs.Anywhere.{met_kept}
 use Rattle.segment_known.specs.Writes.{writes_led, writes_none, writes_anywhere}
 use Rattle.segment_known.proofs.perhaps.quiet.Goals as goal
-
-pub returns-in_default : goal.returns-in_default
-returns-in_default c = λ e. absurd (true≢false (sym e))
-
-pub returns-in_default-address : goal.returns-in_default-address
-returns-in_default-address c = λ e. absurd (true≢false (sym e))
 
 pub returns-in-Unknown : goal.returns-in-Unknown
 returns-in-Unknown c = λ e. let a = c.args in

@@ -10,18 +10,9 @@ use mathlib.Core.Path.{refl}
 use Rattle.segment.specs.Laws.{every, led_lit}
 use Rattle.segment_machine.proofs.bytes.written_in.Goals as goal
 
-pub returns-in-WriteDisplay : goal.returns-in-WriteDisplay
-returns-in-WriteDisplay c = by_value (written (sizes c.args.family) c.args.byte) _ _ _ _ _ (ap data_mode_of c.in-WriteDisplay.is) c.stored_by.ensures
-
 pub returns-in-WriteLed : goal.returns-in-WriteLed
 unfolding set_bits
 returns-in-WriteLed c =
     let a = c.args in
     by_value (written (sizes a.family) a.byte) _ _ _ _ _ (ap data_mode_of c.in-WriteLed.is)
     (every _ (λ i k. refl) refl refl refl refl refl refl (λ k. led_lit a.chip _ a.byte k c.lit.ensures) (λ i. refl) refl refl refl)
-
-pub returns-in-ReadKeys : goal.returns-in-ReadKeys
-returns-in-ReadKeys c = by_value (written (sizes c.args.family) c.args.byte) _ _ _ _ _ (ap data_mode_of c.in-ReadKeys.is) c.unchanged.ensures
-
-pub returns-in-ReadSwitches : goal.returns-in-ReadSwitches
-returns-in-ReadSwitches c = by_value (written (sizes c.args.family) c.args.byte) _ _ _ _ _ (ap data_mode_of c.in-ReadSwitches.is) c.unchanged-in-ReadSwitches.ensures

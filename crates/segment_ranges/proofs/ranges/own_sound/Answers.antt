@@ -12,7 +12,7 @@ unfolding sizes
 returns-in-Pt6312 c =
     rw c.in-Pt6312.is
     (both_tell refl
-    (both_tell refl (both_tell refl c.pointing_sound.ensures c.within.ensures.0) c.within-in-Pt6312.ensures.0)
+    (both_tell refl (both_tell refl c.within.ensures.0 c.within-in-Pt6312.ensures.0) c.within-in-Pt6312-2.ensures.0)
     c.within-low.ensures.0)
 
 pub returns-in-Pt6315 : goal.returns-in-Pt6315
@@ -20,4 +20,4 @@ unfolding sizes
 returns-in-Pt6315 c =
     rw c.in-Pt6315.is
     (tells_as (λ p. (p, byte_lacking (stands c.args.switches) c.within-low.ensures.1)) (λ p. p.0)
-    (both_tell refl (both_tell refl c.pointing_sound-in-Pt6315.ensures c.within-in-Pt6315.ensures.0) c.within-in-Pt6315-2.ensures.0))
+    (both_tell refl (both_tell refl c.within-in-Pt6315.ensures.0 c.within-in-Pt6315-2.ensures.0) c.within-in-Pt6315-3.ensures.0))

@@ -1,8 +1,0 @@
--- `character_walked` meets its contract: what was walked is the half that speaks of the part, and the other half is kept. Assumes nothing.
-use Rattle.packets.proofs.walked.character_walked.Goals as goal
-
-pub returns : goal.returns
-returns c =
-    let w = c.character_walk-walked.ensures in
-    let p = c.with_character.ensures in
-    record { ended = w.ended; known = rw p.0 w.known; kept = p.1 }
