@@ -4,21 +4,20 @@ ghost use Rattle.knowing.specs.Standing.{unknown};
 ghost use Rattle.character.specs.Fact.{Fact};
 ghost use Rattle.character_knowledge.specs.View.{blank, cview, kview};
 ghost use Rattle.character_known.specs.Ram.{Adrift, Gone};
-ghost use Rattle.character_known.specs.Together.{together};
 
 use crate::astray::Astray;
-use crate::rows::Rows;
 use character_knowledge::Control;
 use fact::Single;
 use lamp_tests::none_known;
 
-pub fn nothing_known(c: Control, place: Astray, rows: &Rows) -> bool
+// The rows are lent one by one, since it asks nothing of their lengths.
+pub fn nothing_known(c: Control, place: Astray, dcram: &[u16], cgram: &[u16], adram: &[u16]) -> bool
     requires { Gone c place }
-    ensures { result ≡ true → (f : Fact) → kview (together rows.now c) f ≡ unknown }
+    ensures { result ≡ true → (f : Fact) → kview (record { dcram = dcram.now; cgram = cgram.now; adram = adram.now; control = c }) f ≡ unknown }
 {
     if let Astray::Anywhere = place {
         if nothing_left(c) {
-            return none_known(&rows.dcram) & (none_known(&rows.cgram) & none_known(&rows.adram));
+            return none_known(dcram) & (none_known(cgram) & none_known(adram));
         }
     }
     false

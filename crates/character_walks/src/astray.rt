@@ -25,7 +25,7 @@ pub fn stray_run(c: Control, rows: &mut Rows, run: ByteRun) -> Strayed
     ensures leads { Leads run.entry.bytes.now run.entry.at.0 result.count (together rows.old c) (together rows.new result.control) }
 {
     let place = strays(c);
-    if nothing_known(c, place, rows) {
+    if nothing_known(c, place, &rows.dcram, &rows.cgram, &rows.adram) {
         return Strayed {
             control: c,
             count: run.passed(),

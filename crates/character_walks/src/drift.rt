@@ -50,8 +50,8 @@ pub fn gather_run(c: Control, place: Astray, bytes: ByteRun) -> Gathered
     run
 }
 
-// Each may be a command, or go to any cell of any RAM, or do nothing. The run ends before an undefined command, which leaves nothing known; and
-// a command below 40H sets an address, which is unknown already.
+// Each may be a command, or go to any cell of any RAM, or do nothing. The run ends before an undefined command, which leaves nothing known, as
+// those below 10H are; and a command from there on below 40H sets an address, which is unknown already: no more is asked of it.
 fn drift(c: Control, run: ByteRun) -> Gathered
     requires { Adrift c }
     ensures { Gathers run.entry.bytes.now run.entry.at.0 c result }
@@ -66,12 +66,14 @@ fn drift(c: Control, run: ByteRun) -> Gathered
             return adrift(control, j, code);
         }
         let byte = bytes[from + 2 * j + 1];
-        let command = command_of(byte);
-        if let Command::Undefined = command {
-            return adrift(control, j, code);
-        }
         if byte >= 64 {
+            let command = command_of(byte);
+            if let Command::Undefined = command {
+                return adrift(control, j, code);
+            }
             control = weakened(control, command);
+        } else if byte < 16 {
+            return adrift(control, j, code);
         }
         code = both_lamps(code, code_of(EIGHT, byte));
     }

@@ -24,7 +24,7 @@ pub fn write_degrees(degrees: f32, out: &mut [u8]) -> usize
     w.at
 }
 
-// Whole degrees, a point, and 0 or 5.
+// Whole degrees, a point, and 0 or 5, which is the digit of five times the half that is left.
 fn write_size(w: &mut Writer, halves: u8)
     ensures { Wrote w.old (sized halves) w.new }
 {

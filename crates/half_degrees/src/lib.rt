@@ -21,7 +21,7 @@ pub fn degrees(halves: Halves) -> f32
 }
 
 // The sign of a float that is some half degrees, and how many it is.
-// What may not change: `Half.Halved` is true of nought with either sign, so in two ways, and a type keeps only what is true in one: each function asks for it.
+// Each function asks for `Half.Halved` by itself: it is true of nought with either sign, so in two ways, and a type keeps only what is true in one.
 pub fn halves_of(degrees: f32) -> Halves
     requires { Halved degrees }
     ensures { HasValue degrees result.negative result.size 2 }

@@ -16,7 +16,7 @@ pub const ROOM: usize = 64;
 
 // Writes the line to the front of `out`, and gives its length. Where `out` has less than ROOM bytes nothing is written, and the length is 0, since a number
 // that is cut would pass for another. A reading must be some half degrees, as every reading is that `temperature` gives.
-// What may not change: of a reading `Line.Printable` is `Half.Halved`, which no type keeps (`halves_of` says why), and `Line.a_line` takes the line from it; `Answer::Reading(f32)`, which a caller can make of any float, is the form that was asked for.
+// No type keeps that: of a reading `Line.Printable` is `Half.Halved` (`half_degrees::halves_of` says why), and `Answer::Reading(f32)`, which a caller can make of any float, is the form that paper 02 names.
 pub fn write_line(answer: Answer, out: &mut [u8]) -> usize
     requires { Printable answer }
     ensures { PrintsLine answer out.old result out.new }

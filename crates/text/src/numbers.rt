@@ -5,7 +5,7 @@ ghost use Rattle.text.specs.Text.{digit as text_digit, hex as text_hex, shown as
 
 use writing::Writer;
 
-// A hex digit, in upper case.
+// A hex digit, in upper case, whose byte the contract fixes: a format of std would write it to what grows.
 pub fn digit(n: u8) -> u8
     requires { n < 16 }
     ensures { result ≡ text_digit n }

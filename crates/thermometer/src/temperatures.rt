@@ -12,7 +12,7 @@ use panel::Panel;
 use terms::{Address, NoPart, Part, Place};
 
 // A reading in degrees, or why there is none; or why there is no answer, and then it is unknown: number 1, for another part than PT6302, too, 2, or 11.
-// What may not change: the names of these eight cases are the form that was asked for, by which `Answer.Says` tells them.
+// It is no `Result`: paper 02 names a reading, no reading, dark, unknown and not a reading as the cases of one enum, and a refusal counts as unknown beside them.
 #[derive(Clone, Copy)]
 pub enum Answer {
     Reading(f32),

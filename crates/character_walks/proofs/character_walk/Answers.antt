@@ -10,7 +10,6 @@ use Rattle.std.specs.Prelude.{Ok, Err}
 use Rattle.recording.specs.Record.{record_of}
 use Rattle.terms.specs.declared.Event.TheVariants.{Falls, ByteIn, Rises, Gap}
 use Rattle.lamps.specs.Lamp.{wide8, wide7, wide2}
-use Rattle.one_record.specs.Glance.{InByte}
 use Rattle.character.specs.declared.command.Command.{Command}
 use Rattle.character.specs.Command.{command_of}
 use Rattle.character.specs.Move.{move, commanded}

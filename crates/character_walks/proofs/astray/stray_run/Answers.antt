@@ -1,6 +1,6 @@
 -- `character_walks::astray::stray_run` meets its contract: the run is passed over where nothing at all is known, the cells meet what its bytes have in common, or a byte is taken by itself.
 -- Assumes nothing.
-use Rattle.std.proofs.Common.{arith, rules, ◌∙◌, ◌<◌}
+use Rattle.std.proofs.Common.{arith, ◌∙◌, ◌<◌}
 use Rattle.character_knowledge.specs.View.{kview}
 use Rattle.character_known.specs.Lost.{lost_deaf}
 use Rattle.character_known.specs.Together.{together}

@@ -4,7 +4,7 @@ use Rattle.std.proofs.Common.{◌≡◌}
 use Rattle.std.proofs.Math.Path.{subst⁻¹}
 use Rattle.character_known.specs.Ram.{text, columns, pairs, gone}
 use Rattle.character_walks.specs.declared.drift.Gathered.{Gathered}
-use Rattle.character_walks.specs.Drifts.{Gathers, gathers_none, gathers_roaming}
+use Rattle.character_walks.specs.Drifts.{Gathers, gathers_roaming}
 use Rattle.character_walks.proofs.drift.gather_run.Goals as goal
 use Rattle.character_walks.proofs.drift.gather_run.Goals.{in-Shown, in-Drawn, in-Marked}
 
