@@ -34,13 +34,19 @@ fn is_start(part: Part, unfinished: Unfinished) -> bool
     is_cut_short(part, &row[..count])
 }
 
+// Each refusal has its line, so that an edit can turn one by itself, and the answer that it breaks says so.
 fn is_cut_short(part: Part, bytes: &[u8]) -> bool
     requires { 0 < length bytes.now }
     ensures { Tests result (CutOff part bytes.now) }
 {
     match record_at(part, bytes, Place(0)) {
         Ok(_) => false,
-        Err(refusal) => matches!(refusal, Refusal::CutShort),
+        Err(refusal) => match refusal {
+            Refusal::CutShort => true,
+            Refusal::Unlisted => false,
+            Refusal::Foreign => false,
+            Refusal::Forbidden => false,
+        },
     }
 }
 
