@@ -50,10 +50,11 @@ impl<const ROOM: usize> Bytes<ROOM> {
     pub fn repeat(&mut self, end: usize) {
         let from = self.length;
         if self.mark < from && from < end && end <= ROOM {
-            let (came, room) = self.row.split_at_mut(from);
-            let repeated = came[self.mark..].iter().cycle();
-            for (to, byte) in room[..end - from].iter_mut().zip(repeated) {
-                *to = *byte;
+            // Each byte is the one a group before it: `cycle` begins its group anew at each turn, and took three times the instructions and more.
+            let group = from - self.mark;
+            let row = &mut self.row;
+            for i in from..end {
+                row[i] = row[i - group];
             }
             self.length = end;
         }

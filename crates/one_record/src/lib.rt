@@ -14,6 +14,8 @@ use terms::{Event, Part, Place};
 use tested_bodies::{keys, switches, unfinished};
 
 // The record that starts at a place within the bytes. Its kind is looked at once: an arm has the tests of its kind, in paper 01's order.
+// It is put into each walk, since handing the record back takes as long as reading it.
+#[inline(always)]
 pub fn record_at(part: Part, bytes: &[u8], at: Place) -> Result<Record, Refusal>
     requires { at.0 < length bytes.now }
     ensures { result ≡ front part (drop at.0 bytes.now) }
