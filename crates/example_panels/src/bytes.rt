@@ -50,11 +50,15 @@ impl<const ROOM: usize> Bytes<ROOM> {
     pub fn repeat(&mut self, end: usize) {
         let from = self.length;
         if self.mark < from && from < end && end <= ROOM {
-            // Each byte is the one a group before it: `cycle` begins its group anew at each turn, and took three times the instructions and more.
-            let group = from - self.mark;
+            // What stands behind the mark is a whole number of groups at each turn, so that all of it can be copied. A turn goes on by as much as stands there, which
+            // no range does.
+            let mark = self.mark;
             let row = &mut self.row;
-            for i in from..end {
-                row[i] = row[i - group];
+            let mut at = from;
+            while at < end {
+                let n = (at - mark).min(end - at);
+                row.copy_within(mark..mark + n, at);
+                at += n;
             }
             self.length = end;
         }
